@@ -1,0 +1,7 @@
+-- The laws of masks: numbers as sets of variables. None of them names a width.
+pub mod Bits
+pub mod Reflect
+pub mod Sets
+pub mod Order
+pub mod Lowest
+pub mod Number

@@ -1,0 +1,3 @@
+pub mod List
+pub mod Poly
+pub mod Parts
