@@ -1,0 +1,4 @@
+pub mod Same
+pub mod Run
+pub mod Ends
+pub mod Lone
