@@ -1,0 +1,30 @@
+-- Document 01, "What comes back": the table of codes, once. For each way a call can end it gives code, operand, place and count.
+use Prim.Native.Nat.{ℕ}
+use Rattle.answer.specs.declared.Answer.{Answer}
+use Rattle.answer.specs.declared.Outcome.{Outcome}
+use Rattle.answer.specs.declared.Outcome.the-variants.{Done, Zero, TooMany, Order, Shared, TooLarge, Room, Work, Form, Wide, Short, Misfit, Extra, Pad}
+
+-- accepted: code 0, operand and place 0
+abbrev pub accepted : ℕ → Answer
+accepted count = record { code = 0; operand = 0; place = 0; count = count }
+
+-- refused: count 0
+abbrev pub refused : ℕ → ℕ → ℕ → Answer
+refused code operand place = record { code = code; operand = operand; place = place; count = 0 }
+
+-- the four numbers for each case
+abbrev pub numbersOf : Outcome → Answer
+numbersOf (Done count) = accepted count
+numbersOf Zero = refused 1 1 0
+numbersOf (TooMany operand) = refused 2 operand 0
+numbersOf (Order operand place) = refused 3 operand place
+numbersOf Shared = refused 4 0 0
+numbersOf TooLarge = refused 5 0 0
+numbersOf (Room operand) = refused 6 operand 0
+numbersOf Work = refused 7 1 0
+numbersOf Form = refused 8 1 0
+numbersOf Wide = refused 9 1 0
+numbersOf Short = refused 10 1 0
+numbersOf Misfit = refused 11 1 0
+numbersOf Extra = refused 12 1 0
+numbersOf Pad = refused 13 1 0

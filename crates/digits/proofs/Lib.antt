@@ -1,0 +1,6 @@
+pub mod Number
+pub mod Bits
+pub mod Bitwise
+pub mod Bytes
+pub mod Words
+pub mod Writing

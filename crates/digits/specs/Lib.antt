@@ -1,0 +1,3 @@
+pub mod Number
+pub mod Bitwise
+pub mod Carry

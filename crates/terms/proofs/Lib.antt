@@ -1,0 +1,4 @@
+pub mod Order
+pub mod Width
+pub mod Search
+pub mod Vars
