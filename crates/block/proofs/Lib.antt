@@ -1,0 +1,10 @@
+pub mod Reading
+pub mod Terms
+pub mod Variables
+pub mod Packing
+pub mod Writing
+pub mod Fields
+pub mod Accepted
+pub mod RoundTrip
+pub mod Bitwise
+pub mod Examples
