@@ -1,0 +1,297 @@
+-- The cross test: what the questions about halves say of the whole lists. Leans on ring's three equations and ratios.
+use mathlib.Core.Path.{_≡_, sym, ap, ap₂, _∙_, subst}
+use mathlib.Core.Bool.{Bool}
+use mathlib.Core.List.{List, [], _∷_, _++_}
+use Prim.Native.Nat.{ℕ, suc, _-_, _<_}
+use native.Mathlib.Omega.{arith}
+use lib.ListN.{length, take, drop, length-drop}
+use lib.Seq.{take-all}
+use Rattle.ring.specs.Same.{SameProducts}
+use Rattle.ring.specs.Run.{Run, Cut, Decides, lacking, holding}
+use Rattle.ring.specs.Ends.{Four}
+use Rattle.ring.proofs.Series.{nought, times, laws}
+use Rattle.ring.proofs.Ratio.{ratio-trans, ratio-sym, cross-of-others}
+use Rattle.ring.proofs.Value.{value, join, value-none, Equal, Equations, halves-from-product, product-from-halves}
+use Rattle.ring.proofs.Cases.{mirror, free-split, free-join, whole-from-cross, whole-other-cross}
+use Rattle.ring.proofs.Bridge.{same-from-equal, equal-from-same}
+use Rattle.ring.proofs.Runs.{run-nonzero, cut-within, take-cut, drop-cut}
+use Rattle.cross.specs.Asked.{Halved, Halves, Joined, Ratios, OneRatio, Whole, Outer}
+use Rattle.cross.proofs.Uncut.{decides-by, same-swapped, same-exchanged}
+
+-- ---- cutting
+
+-- the parts of a lent list, as the code names them
+pub front : (k : ℕ) (l : List ℕ) (i : ℕ) → Cut k l → i ≡ length (lacking k l) → take (i - 0) (drop 0 l) ≡ lacking k l
+front k l i c e =
+    let whole : i - 0 ≡ length (lacking k l) = omega arith in
+    ap (λ (n : ℕ). take n l) whole ∙ take-cut k l c
+
+pub back : (k : ℕ) (l : List ℕ) (i : ℕ) → Cut k l → i ≡ length (lacking k l) → take (length l - i) (drop i l) ≡ holding k l
+back k l i c e = take-all (length l - i) (drop i l) (omega (arith, length-drop i l)) ∙ ap (λ (n : ℕ). drop n l) e ∙ drop-cut k l c
+
+halved-of : (k : ℕ) (l : List ℕ) → Run (suc k) l → 0 < length l → Halved k (lacking k l) (holding k l)
+halved-of k l r h = record {
+  low = ap (lacking k) (sym (r .0));
+  high = ap (holding k) (sym (r .0));
+  run-low = r .1;
+  run-high = r .2;
+  some = omega (arith, cut-within k l (r .0));
+}
+
+pub halves-of : (k : ℕ) (a d b c : List ℕ) → Four (suc k) a d b c
+    → Halves k (lacking k a) (holding k a) (lacking k d) (holding k d) (lacking k b) (holding k b) (lacking k c) (holding k c)
+halves-of k a d b c f = record {
+  of-a = halved-of k a (f .run-a) (f .some-a);
+  of-d = halved-of k d (f .run-d) (f .some-d);
+  of-b = halved-of k b (f .run-b) (f .some-b);
+  of-c = halved-of k c (f .run-c) (f .some-c);
+}
+
+pub same-of-joined : (k : ℕ) (a d b c : List ℕ) → Four (suc k) a d b c → (r : Bool)
+    → Decides r (Joined k (lacking k a) (holding k a) (lacking k d) (holding k d) (lacking k b) (holding k b) (lacking k c) (holding k c))
+    → Decides r (SameProducts (suc k) a d b c)
+same-of-joined k a d b c f r =
+    subst (λ (l : List ℕ). Decides r (SameProducts (suc k) l (lacking k d ++ holding k d) (lacking k b ++ holding k b) (lacking k c ++ holding k c)) → Decides r (SameProducts (suc k) a d b c)) (f .run-a .0)
+    (subst (λ (l : List ℕ). Decides r (SameProducts (suc k) a l (lacking k b ++ holding k b) (lacking k c ++ holding k c)) → Decides r (SameProducts (suc k) a d b c)) (f .run-d .0)
+    (subst (λ (l : List ℕ). Decides r (SameProducts (suc k) a d l (lacking k c ++ holding k c)) → Decides r (SameProducts (suc k) a d b c)) (f .run-b .0)
+    (subst (λ (l : List ℕ). Decides r (SameProducts (suc k) a d b l) → Decides r (SameProducts (suc k) a d b c)) (f .run-c .0) (λ h. h))))
+
+-- ---- the three equations
+
+value-joined : (k : ℕ) (l h : List ℕ) → Halved k l h → value (suc k) (l ++ h) ≡ join k (value k l) (value k h)
+unfolding value
+value-joined k l h p = ap₂ (λ (x y : List ℕ). join k (value k x) (value k y)) (p .low) (p .high)
+
+-- the three equations of the values of halves
+abbrev pub Three : ℕ → List ℕ → List ℕ → List ℕ → List ℕ → List ℕ → List ℕ → List ℕ → List ℕ → Type 0
+Three k a₀ a₁ d₀ d₁ b₀ b₁ c₀ c₁ =
+    Equations k (value k a₀) (value k a₁) (value k d₀) (value k d₁) (value k b₀) (value k b₁) (value k c₀) (value k c₁)
+
+module _ (k : ℕ) (a₀ a₁ d₀ d₁ b₀ b₁ c₀ c₁ : List ℕ) (p : Halves k a₀ a₁ d₀ d₁ b₀ b₁ c₀ c₁) where
+  pub three-of : Joined k a₀ a₁ d₀ d₁ b₀ b₁ c₀ c₁ → Three k a₀ a₁ d₀ d₁ b₀ b₁ c₀ c₁
+  three-of h =
+      halves-from-product k (value k a₀) (value k a₁) (value k d₀) (value k d₁) (value k b₀) (value k b₁) (value k c₀) (value k c₁)
+      (sym (ap₂ (times (suc k)) (value-joined k a₀ a₁ (p .of-a)) (value-joined k d₀ d₁ (p .of-d)))
+      ∙ equal-from-same (suc k) (a₀ ++ a₁) (d₀ ++ d₁) (b₀ ++ b₁) (c₀ ++ c₁) h
+      ∙ ap₂ (times (suc k)) (value-joined k b₀ b₁ (p .of-b)) (value-joined k c₀ c₁ (p .of-c)))
+
+  pub joined-of : Three k a₀ a₁ d₀ d₁ b₀ b₁ c₀ c₁ → Joined k a₀ a₁ d₀ d₁ b₀ b₁ c₀ c₁
+  joined-of e =
+      same-from-equal (suc k) (a₀ ++ a₁) (d₀ ++ d₁) (b₀ ++ b₁) (c₀ ++ c₁)
+      (ap₂ (times (suc k)) (value-joined k a₀ a₁ (p .of-a)) (value-joined k d₀ d₁ (p .of-d))
+      ∙ product-from-halves k (value k a₀) (value k a₁) (value k d₀) (value k d₁) (value k b₀) (value k b₁) (value k c₀) (value k c₁) e
+      ∙ sym (ap₂ (times (suc k)) (value-joined k b₀ b₁ (p .of-b)) (value-joined k c₀ c₁ (p .of-c))))
+
+  pub halves-swapped : Halves k a₀ a₁ d₀ d₁ c₀ c₁ b₀ b₁
+  halves-swapped = record { of-a = p .of-a; of-d = p .of-d; of-b = p .of-c; of-c = p .of-b }
+
+  pub joined-swapped : (r : Bool) → Decides r (Joined k a₀ a₁ d₀ d₁ c₀ c₁ b₀ b₁) → Decides r (Joined k a₀ a₁ d₀ d₁ b₀ b₁ c₀ c₁)
+  joined-swapped r =
+      decides-by r (same-swapped (suc k) (a₀ ++ a₁) (d₀ ++ d₁) (b₀ ++ b₁) (c₀ ++ c₁)) (same-swapped (suc k) (a₀ ++ a₁) (d₀ ++ d₁) (c₀ ++ c₁) (b₀ ++ b₁))
+
+-- ---- three ratios
+
+module _ (k : ℕ) (p₁ q₁ p₂ q₂ p₃ q₃ : List ℕ) where
+  -- asked from the second: p₂ / q₂ = p₁ / q₁ and p₂ / q₂ = p₃ / q₃
+  pub ratio-from-second : Ratios k p₁ q₁ p₂ q₂ p₃ q₃ → 0 < length q₂ → (r : Bool)
+      → Decides r (SameProducts k p₂ q₁ q₂ p₁ × SameProducts k p₂ q₃ q₂ p₃) → Decides r (OneRatio k p₁ q₁ p₂ q₂ p₃ q₃)
+  ratio-from-second u h r = decides-by r forth back-again
+    where
+      forth : SameProducts k p₂ q₁ q₂ p₁ × SameProducts k p₂ q₃ q₂ p₃ → OneRatio k p₁ q₁ p₂ q₂ p₃ q₃
+      forth s =
+          let first-two : Equal k p₁ q₂ q₁ p₂ = ratio-sym (laws k) (value k p₂) (value k q₂) (value k p₁) (value k q₁) (equal-from-same k p₂ q₁ q₂ p₁ (s .0)) in (
+            same-from-equal k p₁ q₂ q₁ p₂ first-two,
+            same-from-equal k p₁ q₃ q₁ p₃
+                (ratio-trans (laws k) (value k p₁) (value k q₁) (value k p₂) (value k q₂) (value k p₃) (value k q₃) (run-nonzero k q₂ (u .run-q₂) h) first-two (equal-from-same k p₂ q₃ q₂ p₃ (s .1))),
+          )
+
+      back-again : OneRatio k p₁ q₁ p₂ q₂ p₃ q₃ → SameProducts k p₂ q₁ q₂ p₁ × SameProducts k p₂ q₃ q₂ p₃
+      back-again s =
+          let first-two : Equal k p₂ q₁ q₂ p₁ = ratio-sym (laws k) (value k p₁) (value k q₁) (value k p₂) (value k q₂) (equal-from-same k p₁ q₂ q₁ p₂ (s .0)) in (
+            same-from-equal k p₂ q₁ q₂ p₁ first-two,
+            same-from-equal k p₂ q₃ q₂ p₃
+                (ratio-trans (laws k) (value k p₂) (value k q₂) (value k p₁) (value k q₁) (value k p₃) (value k q₃) (run-nonzero k q₁ (u .run-q₁) (u .some-q₁)) first-two (equal-from-same k p₁ q₃ q₁ p₃ (s .1))),
+          )
+
+pub ratio-from-third : (k : ℕ) (p₁ q₁ p₂ q₂ p₃ q₃ : List ℕ) → Ratios k p₁ q₁ p₂ q₂ p₃ q₃ → 0 < length q₃ → (r : Bool)
+    → Decides r (SameProducts k p₃ q₁ q₃ p₁ × SameProducts k p₃ q₂ q₃ p₂) → Decides r (OneRatio k p₁ q₁ p₂ q₂ p₃ q₃)
+ratio-from-third k p₁ q₁ p₂ q₂ p₃ q₃ u h r s =
+    decides-by r (λ t. (t .1, t .0)) (λ t. (t .1, t .0))
+    (ratio-from-second k p₁ q₁ p₃ q₃ p₂ q₂
+    (record { run-p₁ = u .run-p₁; run-q₁ = u .run-q₁; run-p₂ = u .run-p₃; run-q₂ = u .run-q₃; run-p₃ = u .run-p₂; run-q₃ = u .run-q₂; some-q₁ = u .some-q₁ })
+    h r s)
+
+-- ---- the variable does not occur in a and b, or divides both
+
+empty-value : (k : ℕ) (l : List ℕ) → length l ≡ 0 → value k l ≡ nought k
+empty-value k [] e = value-none k
+empty-value k (t ∷ l) e = absurd (omega arith)
+
+module _ (k : ℕ) (a₀ a₁ d₀ d₁ b₀ b₁ c₀ c₁ : List ℕ) (p : Halves k a₀ a₁ d₀ d₁ b₀ b₁ c₀ c₁) where
+  pub joined-if-free : length a₁ ≡ 0 → length b₁ ≡ 0 → (r : Bool) → Decides r (OneRatio k a₀ b₀ c₁ d₁ c₀ d₀) → Decides r (Joined k a₀ a₁ d₀ d₁ b₀ b₁ c₀ c₁)
+  joined-if-free ea eb r = decides-by r forth back-again
+    where
+      forth : OneRatio k a₀ b₀ c₁ d₁ c₀ d₀ → Joined k a₀ a₁ d₀ d₁ b₀ b₁ c₀ c₁
+      forth s =
+          joined-of k a₀ a₁ d₀ d₁ b₀ b₁ c₀ c₁ p
+          (free-join k (value k a₀) (value k a₁) (value k d₀) (value k d₁) (value k b₀) (value k b₁) (value k c₀) (value k c₁) (empty-value k a₁ ea) (empty-value k b₁ eb)
+          (equal-from-same k a₀ d₁ b₀ c₁ (s .0), equal-from-same k a₀ d₀ b₀ c₀ (s .1)))
+
+      back-again : Joined k a₀ a₁ d₀ d₁ b₀ b₁ c₀ c₁ → OneRatio k a₀ b₀ c₁ d₁ c₀ d₀
+      back-again j =
+          let e = free-split k (value k a₀) (value k a₁) (value k d₀) (value k d₁) (value k b₀) (value k b₁) (value k c₀) (value k c₁) (empty-value k a₁ ea) (empty-value k b₁ eb)
+          (three-of k a₀ a₁ d₀ d₁ b₀ b₁ c₀ c₁ p j) in
+          (same-from-equal k a₀ d₁ b₀ c₁ (e .0), same-from-equal k a₀ d₀ b₀ c₀ (e .1))
+
+  pub joined-if-divided : length a₀ ≡ 0 → length b₀ ≡ 0 → (r : Bool) → Decides r (OneRatio k a₁ b₁ c₁ d₁ c₀ d₀) → Decides r (Joined k a₀ a₁ d₀ d₁ b₀ b₁ c₀ c₁)
+  joined-if-divided ea eb r = decides-by r forth back-again
+    where
+      forth : OneRatio k a₁ b₁ c₁ d₁ c₀ d₀ → Joined k a₀ a₁ d₀ d₁ b₀ b₁ c₀ c₁
+      forth s =
+          joined-of k a₀ a₁ d₀ d₁ b₀ b₁ c₀ c₁ p
+          (mirror k (value k a₁) (value k a₀) (value k d₁) (value k d₀) (value k b₁) (value k b₀) (value k c₁) (value k c₀)
+          (free-join k (value k a₁) (value k a₀) (value k d₁) (value k d₀) (value k b₁) (value k b₀) (value k c₁) (value k c₀) (empty-value k a₀ ea) (empty-value k b₀ eb)
+          (equal-from-same k a₁ d₀ b₁ c₀ (s .1), equal-from-same k a₁ d₁ b₁ c₁ (s .0))))
+
+      back-again : Joined k a₀ a₁ d₀ d₁ b₀ b₁ c₀ c₁ → OneRatio k a₁ b₁ c₁ d₁ c₀ d₀
+      back-again j =
+          let e = free-split k (value k a₁) (value k a₀) (value k d₁) (value k d₀) (value k b₁) (value k b₀) (value k c₁) (value k c₀) (empty-value k a₀ ea) (empty-value k b₀ eb)
+          (mirror k (value k a₀) (value k a₁) (value k d₀) (value k d₁) (value k b₀) (value k b₁) (value k c₀) (value k c₁)
+          (three-of k a₀ a₁ d₀ d₁ b₀ b₁ c₀ c₁ p j)) in
+          (same-from-equal k a₁ d₁ b₁ c₁ (e .1), same-from-equal k a₁ d₀ b₁ c₀ (e .0))
+
+  -- A with D and B with C change places
+  pub halves-exchanged : Halves k d₀ d₁ a₀ a₁ c₀ c₁ b₀ b₁
+  halves-exchanged = record { of-a = p .of-d; of-d = p .of-a; of-b = p .of-c; of-c = p .of-b }
+
+pub joined-exchanged : (k : ℕ) (a₀ a₁ d₀ d₁ b₀ b₁ c₀ c₁ : List ℕ) (r : Bool)
+    → Decides r (Joined k d₀ d₁ a₀ a₁ c₀ c₁ b₀ b₁) → Decides r (Joined k a₀ a₁ d₀ d₁ b₀ b₁ c₀ c₁)
+joined-exchanged k a₀ a₁ d₀ d₁ b₀ b₁ c₀ c₁ r =
+    decides-by r (same-exchanged (suc k) (a₀ ++ a₁) (d₀ ++ d₁) (b₀ ++ b₁) (c₀ ++ c₁)) (same-exchanged (suc k) (d₀ ++ d₁) (a₀ ++ a₁) (c₀ ++ c₁) (b₀ ++ b₁))
+
+-- ---- all eight halves are there
+
+module _ (k : ℕ) (a₀ a₁ d₀ d₁ b₀ b₁ c₀ c₁ : List ℕ) (w : Whole k a₀ a₁ d₀ d₁ b₀ b₁ c₀ c₁) where
+  pub differ-if-outer-fails : ¬ Outer k a₀ a₁ d₀ d₁ b₀ b₁ c₀ c₁ → ¬ Joined k a₀ a₁ d₀ d₁ b₀ b₁ c₀ c₁
+  differ-if-outer-fails n j =
+      let e = three-of k a₀ a₁ d₀ d₁ b₀ b₁ c₀ c₁ (w .halves) j in
+      n (same-from-equal k a₁ d₁ b₁ c₁ (e .high), same-from-equal k a₀ d₀ b₀ c₀ (e .low))
+
+  module _ (o : Outer k a₀ a₁ d₀ d₁ b₀ b₁ c₀ c₁) where
+    outer-high : Equal k a₁ d₁ b₁ c₁
+    outer-high = equal-from-same k a₁ d₁ b₁ c₁ (o .0)
+
+    outer-low : Equal k a₀ d₀ b₀ c₀
+    outer-low = equal-from-same k a₀ d₀ b₀ c₀ (o .1)
+
+    pub joined-if-crossed : SameProducts k a₁ b₀ a₀ b₁ → Joined k a₀ a₁ d₀ d₁ b₀ b₁ c₀ c₁
+    joined-if-crossed s =
+        joined-of k a₀ a₁ d₀ d₁ b₀ b₁ c₀ c₁ (w .halves)
+        (whole-from-cross k (value k a₀) (value k a₁) (value k d₀) (value k d₁) (value k b₀) (value k b₁) (value k c₀) (value k c₁) outer-high outer-low
+        (run-nonzero k b₀ (w .halves .of-b .run-low) (w .some-b₀)) (run-nonzero k b₁ (w .halves .of-b .run-high) (w .some-b₁))
+        (equal-from-same k a₁ b₀ a₀ b₁ s))
+
+    pub whole-swapped : Whole k a₀ a₁ d₀ d₁ c₀ c₁ b₀ b₁
+    whole-swapped = record {
+      halves = halves-swapped k a₀ a₁ d₀ d₁ b₀ b₁ c₀ c₁ (w .halves);
+      some-a₀ = w .some-a₀;
+      some-a₁ = w .some-a₁;
+      some-d₀ = w .some-d₀;
+      some-d₁ = w .some-d₁;
+      some-b₀ = w .some-c₀;
+      some-b₁ = w .some-c₁;
+      some-c₀ = w .some-b₀;
+      some-c₁ = w .some-b₁;
+    }
+
+    pub outer-swapped : Outer k a₀ a₁ d₀ d₁ c₀ c₁ b₀ b₁
+    outer-swapped = (same-swapped k a₁ d₁ c₁ b₁ (o .0), same-swapped k a₀ d₀ c₀ b₀ (o .1))
+
+    -- the second cross question decides where the first one failed
+    other-cross : ¬ SameProducts k a₁ b₀ a₀ b₁ → Joined k a₀ a₁ d₀ d₁ b₀ b₁ c₀ c₁ → SameProducts k a₁ c₀ a₀ c₁
+    other-cross n j =
+        same-from-equal k a₁ c₀ a₀ c₁
+        (whole-other-cross k (value k a₀) (value k a₁) (value k d₀) (value k d₁) (value k b₀) (value k b₁) (value k c₀) (value k c₁) outer-high outer-low
+        (λ e. n (same-from-equal k a₁ b₀ a₀ b₁ e)) (three-of k a₀ a₁ d₀ d₁ b₀ b₁ c₀ c₁ (w .halves) j))
+
+  -- asked of c and d instead
+  pub crossed-by-others : Outer k a₀ a₁ d₀ d₁ b₀ b₁ c₀ c₁ → (r : Bool) → Decides r (SameProducts k c₁ d₀ c₀ d₁) → Decides r (SameProducts k a₁ b₀ a₀ b₁)
+  crossed-by-others o r = decides-by r forth back-again
+    where
+      high : Equal k a₁ d₁ b₁ c₁
+      high = equal-from-same k a₁ d₁ b₁ c₁ (o .0)
+
+      low : Equal k a₀ d₀ b₀ c₀
+      low = equal-from-same k a₀ d₀ b₀ c₀ (o .1)
+
+      forth : SameProducts k c₁ d₀ c₀ d₁ → SameProducts k a₁ b₀ a₀ b₁
+      forth s =
+          same-from-equal k a₁ b₀ a₀ b₁
+          (cross-of-others (laws k) (value k c₀) (value k c₁) (value k b₀) (value k b₁) (value k d₀) (value k d₁) (value k a₀) (value k a₁)
+          (ratio-sym (laws k) (value k a₁) (value k b₁) (value k c₁) (value k d₁) high) (ratio-sym (laws k) (value k a₀) (value k b₀) (value k c₀) (value k d₀) low)
+          (run-nonzero k d₀ (w .halves .of-d .run-low) (w .some-d₀)) (run-nonzero k d₁ (w .halves .of-d .run-high) (w .some-d₁))
+          (equal-from-same k c₁ d₀ c₀ d₁ s))
+
+      back-again : SameProducts k a₁ b₀ a₀ b₁ → SameProducts k c₁ d₀ c₀ d₁
+      back-again s =
+          same-from-equal k c₁ d₀ c₀ d₁
+          (cross-of-others (laws k) (value k a₀) (value k a₁) (value k d₀) (value k d₁) (value k b₀) (value k b₁) (value k c₀) (value k c₁) high low
+          (run-nonzero k b₀ (w .halves .of-b .run-low) (w .some-b₀)) (run-nonzero k b₁ (w .halves .of-b .run-high) (w .some-b₁))
+          (equal-from-same k a₁ b₀ a₀ b₁ s))
+
+pub joined-if-crossed-other : (k : ℕ) (a₀ a₁ d₀ d₁ b₀ b₁ c₀ c₁ : List ℕ) (w : Whole k a₀ a₁ d₀ d₁ b₀ b₁ c₀ c₁) (o : Outer k a₀ a₁ d₀ d₁ b₀ b₁ c₀ c₁)
+    → ¬ SameProducts k a₁ b₀ a₀ b₁ → (r : Bool) → Decides r (SameProducts k a₁ c₀ a₀ c₁) → Decides r (Joined k a₀ a₁ d₀ d₁ b₀ b₁ c₀ c₁)
+joined-if-crossed-other k a₀ a₁ d₀ d₁ b₀ b₁ c₀ c₁ w o n r =
+    decides-by r
+    (λ s.
+    same-swapped (suc k) (a₀ ++ a₁) (d₀ ++ d₁) (b₀ ++ b₁) (c₀ ++ c₁)
+    (joined-if-crossed k a₀ a₁ d₀ d₁ c₀ c₁ b₀ b₁ (whole-swapped k a₀ a₁ d₀ d₁ b₀ b₁ c₀ c₁ w o) (outer-swapped k a₀ a₁ d₀ d₁ b₀ b₁ c₀ c₁ w o) s))
+    (other-cross k a₀ a₁ d₀ d₁ b₀ b₁ c₀ c₁ w o n)
+
+-- ---- two questions
+
+module _ (k : ℕ) (a₀ a₁ d₀ d₁ b₀ b₁ c₀ c₁ : List ℕ) where
+  pub outer-by-low : SameProducts k a₁ d₁ b₁ c₁ → (r : Bool) → Decides r (SameProducts k a₀ d₀ b₀ c₀) → Decides r (Outer k a₀ a₁ d₀ d₁ b₀ b₁ c₀ c₁)
+  outer-by-low s r = decides-by r (λ t. (s, t)) (λ z. z .1)
+
+  pub outer-turned : (r : Bool) → Decides r (Outer k a₁ a₀ d₁ d₀ b₁ b₀ c₁ c₀) → Decides r (Outer k a₀ a₁ d₀ d₁ b₀ b₁ c₀ c₁)
+  outer-turned r = decides-by r (λ z. (z .1, z .0)) (λ z. (z .1, z .0))
+
+-- ---- the parts as the code lends them
+
+module _ (k : ℕ) (a d b c : List ℕ) (i j m n : ℕ) (f : Four (suc k) a d b c)
+    (ei : i ≡ length (lacking k a)) (ej : j ≡ length (lacking k d)) (em : m ≡ length (lacking k b)) (en : n ≡ length (lacking k c)) where
+  pub halves-lent :
+      Halves k (take (i - 0) (drop 0 a)) (take (length a - i) (drop i a)) (take (j - 0) (drop 0 d)) (take (length d - j) (drop j d))
+      (take (m - 0) (drop 0 b)) (take (length b - m) (drop m b)) (take (n - 0) (drop 0 c)) (take (length c - n) (drop n c))
+  halves-lent =
+      rw (
+        front k a i (f .run-a .0) ei,
+        back k a i (f .run-a .0) ei,
+        front k d j (f .run-d .0) ej,
+        back k d j (f .run-d .0) ej,
+        front k b m (f .run-b .0) em,
+        back k b m (f .run-b .0) em,
+        front k c n (f .run-c .0) en,
+        back k c n (f .run-c .0) en,
+      )
+      (halves-of k a d b c f)
+
+  pub same-of-lent : (r : Bool)
+      → Decides r
+      (Joined k (take (i - 0) (drop 0 a)) (take (length a - i) (drop i a)) (take (j - 0) (drop 0 d)) (take (length d - j) (drop j d))
+      (take (m - 0) (drop 0 b)) (take (length b - m) (drop m b)) (take (n - 0) (drop 0 c)) (take (length c - n) (drop n c)))
+      → Decides r (SameProducts (suc k) a d b c)
+  same-of-lent r h =
+      same-of-joined k a d b c f r
+      (rw (
+        front k a i (f .run-a .0) ei,
+        back k a i (f .run-a .0) ei,
+        front k d j (f .run-d .0) ej,
+        back k d j (f .run-d .0) ej,
+        front k b m (f .run-b .0) em,
+        back k b m (f .run-b .0) em,
+        front k c n (f .run-c .0) en,
+        back k c n (f .run-c .0) en,
+      )
+      at h)

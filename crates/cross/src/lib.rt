@@ -1,0 +1,262 @@
+// Document 01, "Deciding AD = BC": the four-list test calls the cross test and it calls the four-list test, and the number of
+// variables left falls. Lists are handed on as parts of the lent lists; only the bits below k are read, nothing is copied.
+// Which questions are asked, and in which order, decides between milliseconds and minutes: the smaller equation comes first,
+// equal ratios are asked along a tree from the smallest, and constant variables are skipped at once by a mask.
+ghost use mathlib.Core.Path.{_≡_};
+ghost use Prim.Native.Nat.{suc, _≤_, _<_};
+ghost use Rattle.ring.specs.Same.{SameProducts};
+ghost use Rattle.ring.specs.Run.{Decides};
+ghost use Rattle.ring.specs.Ends.{Four};
+ghost use Rattle.runs.specs.Read.{shape};
+ghost use Rattle.cross.specs.Asked.{Runs, Halves, Joined, Ratios, OneRatio, Whole, Outer};
+
+// The four-list test: whether AD = BC, on the variables below k.
+pub fn same(a: &[u64], d: &[u64], b: &[u64], c: &[u64], k: u64) -> bool
+    requires { ⌜ (k ≤ 64) × Runs k (now a) (now d) (now b) (now c) ⌝ }
+    ensures { λ r. ⌜ Decides r (SameProducts k (now (a .entry)) (now (d .entry)) (now (b .entry)) (now (c .entry))) ⌝ }
+{
+    if runs::vanish(a, d) {
+        return runs::vanish(b, c);
+    }
+    if runs::vanish(b, c) {
+        return false;
+    }
+    let w = runs::left(runs::vary(a, d, b, c, k), k);
+    if runs::within(runs::clash(a, d, b, c, k), w, k) {
+        return false;
+    }
+    settle(a, d, b, c, w)
+}
+
+// The same, where no list is empty: with one term on each side the others match in order, and a list that stands on both sides
+// leaves a comparison.
+fn settle(a: &[u64], d: &[u64], b: &[u64], c: &[u64], k: u64) -> bool
+    requires { ⌜ (k ≤ 64) × Four k (now a) (now d) (now b) (now c) ⌝ }
+    ensures { λ r. ⌜ Decides r (SameProducts k (now (a .entry)) (now (d .entry)) (now (b .entry)) (now (c .entry))) ⌝ }
+{
+    if k == 0 {
+        return true;
+    }
+    if a.len() == 1 {
+        if b.len() == 1 {
+            return runs::matched(a[0], b[0], d, c, k);
+        }
+        if c.len() == 1 {
+            return runs::matched(a[0], c[0], d, b, k);
+        }
+    }
+    if d.len() == 1 {
+        if b.len() == 1 {
+            return runs::matched(d[0], b[0], a, c, k);
+        }
+        if c.len() == 1 {
+            return runs::matched(d[0], c[0], a, b, k);
+        }
+    }
+    if runs::alike(a, b, k) {
+        return runs::alike(d, c, k);
+    }
+    if runs::alike(a, c, k) {
+        return runs::alike(d, b, k);
+    }
+    cross(a, d, b, c, k - 1)
+}
+
+// The cross test: the lists are cut at their highest variable k, and the halves are asked about.
+fn cross(a: &[u64], d: &[u64], b: &[u64], c: &[u64], k: u64) -> bool
+    requires { ⌜ (k < 64) × Four (suc k) (now a) (now d) (now b) (now c) ⌝ }
+    ensures { λ r. ⌜ Decides r (SameProducts (suc k) (now (a .entry)) (now (d .entry)) (now (b .entry)) (now (c .entry))) ⌝ }
+{
+    let i = runs::cut(a, k);
+    let j = runs::cut(d, k);
+    let m = runs::cut(b, k);
+    let n = runs::cut(c, k);
+    halves(
+        &a[0..i],
+        &a[i..],
+        &d[0..j],
+        &d[j..],
+        &b[0..m],
+        &b[m..],
+        &c[0..n],
+        &c[n..],
+        k,
+    )
+}
+
+// The two sides must have the same shapes: operands of one shape are set against each other.
+fn halves(
+    a0: &[u64],
+    a1: &[u64],
+    d0: &[u64],
+    d1: &[u64],
+    b0: &[u64],
+    b1: &[u64],
+    c0: &[u64],
+    c1: &[u64],
+    k: u64,
+) -> bool
+    requires { ⌜ (k < 64) × Halves k (now a0) (now a1) (now d0) (now d1) (now b0) (now b1) (now c0) (now c1) ⌝ }
+    ensures { λ r. ⌜ Decides r (Joined k (now (a0 .entry)) (now (a1 .entry)) (now (d0 .entry)) (now (d1 .entry)) (now (b0 .entry)) (now (b1 .entry)) (now (c0 .entry)) (now (c1 .entry))) ⌝ }
+{
+    let p = runs::pairing(
+        runs::shape_of(a0, a1),
+        runs::shape_of(d0, d1),
+        runs::shape_of(b0, b1),
+        runs::shape_of(c0, c1),
+    );
+    if p == 0 {
+        return opposed(a0, a1, d0, d1, b0, b1, c0, c1, k);
+    }
+    if p == 1 {
+        return opposed(a0, a1, d0, d1, c0, c1, b0, b1, k);
+    }
+    false
+}
+
+// A and B have one shape, D and C another or the same: three ratios, or four where all halves are there.
+fn opposed(
+    a0: &[u64],
+    a1: &[u64],
+    d0: &[u64],
+    d1: &[u64],
+    b0: &[u64],
+    b1: &[u64],
+    c0: &[u64],
+    c1: &[u64],
+    k: u64,
+) -> bool
+    requires { ⌜ (k < 64) × Halves k (now a0) (now a1) (now d0) (now d1) (now b0) (now b1) (now c0) (now c1) ⌝ }
+    requires { ⌜ (shape (now a0) (now a1) ≡ shape (now b0) (now b1)) × (shape (now d0) (now d1) ≡ shape (now c0) (now c1)) ⌝ }
+    ensures { λ r. ⌜ Decides r (Joined k (now (a0 .entry)) (now (a1 .entry)) (now (d0 .entry)) (now (d1 .entry)) (now (b0 .entry)) (now (b1 .entry)) (now (c0 .entry)) (now (c1 .entry))) ⌝ }
+{
+    if a1.len() == 0 {
+        return ratios(a0, b0, c1, d1, c0, d0, k);
+    }
+    if a0.len() == 0 {
+        return ratios(a1, b1, c1, d1, c0, d0, k);
+    }
+    if d1.len() == 0 {
+        return ratios(d0, c0, b1, a1, b0, a0, k);
+    }
+    if d0.len() == 0 {
+        return ratios(d1, c1, b1, a1, b0, a0, k);
+    }
+    whole(a0, a1, d0, d1, b0, b1, c0, c1, k)
+}
+
+// Whether three ratios are one: the smallest is asked against the other two.
+fn ratios(p1: &[u64], q1: &[u64], p2: &[u64], q2: &[u64], p3: &[u64], q3: &[u64], k: u64) -> bool
+    requires { ⌜ (k < 64) × Ratios k (now p1) (now q1) (now p2) (now q2) (now p3) (now q3) ⌝ }
+    ensures { λ r. ⌜ Decides r (OneRatio k (now (p1 .entry)) (now (q1 .entry)) (now (p2 .entry)) (now (q2 .entry)) (now (p3 .entry)) (now (q3 .entry))) ⌝ }
+{
+    let s1 = p1.len() + q1.len();
+    let s2 = p2.len() + q2.len();
+    let s3 = p3.len() + q3.len();
+    if 0 < q2.len() {
+        if s2 < s1 {
+            if s2 < s3 {
+                return both(p2, q1, q2, p1, p2, q3, q2, p3, k);
+            }
+        }
+    }
+    if 0 < q3.len() {
+        if s3 < s1 {
+            return both(p3, q1, q3, p1, p3, q2, q3, p2, k);
+        }
+    }
+    both(p1, q2, q1, p2, p1, q3, q1, p3, k)
+}
+
+// Two questions, the first one first.
+fn both(
+    a1: &[u64],
+    d1: &[u64],
+    b1: &[u64],
+    c1: &[u64],
+    a0: &[u64],
+    d0: &[u64],
+    b0: &[u64],
+    c0: &[u64],
+    k: u64,
+) -> bool
+    requires { ⌜ (k < 64) × Runs k (now a1) (now d1) (now b1) (now c1) ⌝ }
+    requires { ⌜ Runs k (now a0) (now d0) (now b0) (now c0) ⌝ }
+    ensures { λ r. ⌜ Decides r (Outer k (now (a0 .entry)) (now (a1 .entry)) (now (d0 .entry)) (now (d1 .entry)) (now (b0 .entry)) (now (b1 .entry)) (now (c0 .entry)) (now (c1 .entry))) ⌝ }
+{
+    if same(a1, d1, b1, c1, k) {
+        return same(a0, d0, b0, c0, k);
+    }
+    false
+}
+
+// All eight halves are there: the two outer equations, the smaller first, then a cross question or the other one.
+fn whole(
+    a0: &[u64],
+    a1: &[u64],
+    d0: &[u64],
+    d1: &[u64],
+    b0: &[u64],
+    b1: &[u64],
+    c0: &[u64],
+    c1: &[u64],
+    k: u64,
+) -> bool
+    requires { ⌜ (k < 64) × Whole k (now a0) (now a1) (now d0) (now d1) (now b0) (now b1) (now c0) (now c1) ⌝ }
+    ensures { λ r. ⌜ Decides r (Joined k (now (a0 .entry)) (now (a1 .entry)) (now (d0 .entry)) (now (d1 .entry)) (now (b0 .entry)) (now (b1 .entry)) (now (c0 .entry)) (now (c1 .entry))) ⌝ }
+{
+    if outer(a0, a1, d0, d1, b0, b1, c0, c1, k) {
+        if crossed(a0, a1, d0, d1, b0, b1, c0, c1, k) {
+            return true;
+        }
+        return crossed(a0, a1, d0, d1, c0, c1, b0, b1, k);
+    }
+    false
+}
+
+// The equation of the halves with the variable and that of the halves without it, the smaller first.
+fn outer(
+    a0: &[u64],
+    a1: &[u64],
+    d0: &[u64],
+    d1: &[u64],
+    b0: &[u64],
+    b1: &[u64],
+    c0: &[u64],
+    c1: &[u64],
+    k: u64,
+) -> bool
+    requires { ⌜ (k < 64) × Whole k (now a0) (now a1) (now d0) (now d1) (now b0) (now b1) (now c0) (now c1) ⌝ }
+    ensures { λ r. ⌜ Decides r (Outer k (now (a0 .entry)) (now (a1 .entry)) (now (d0 .entry)) (now (d1 .entry)) (now (b0 .entry)) (now (b1 .entry)) (now (c0 .entry)) (now (c1 .entry))) ⌝ }
+{
+    let low = a0.len() + d0.len() + b0.len() + c0.len();
+    let high = a1.len() + d1.len() + b1.len() + c1.len();
+    if low < high {
+        return both(a0, d0, b0, c0, a1, d1, b1, c1, k);
+    }
+    both(a1, d1, b1, c1, a0, d0, b0, c0, k)
+}
+
+// Whether A1 / B1 = A0 / B0, or what says the same of C and D, where those are smaller.
+fn crossed(
+    a0: &[u64],
+    a1: &[u64],
+    d0: &[u64],
+    d1: &[u64],
+    b0: &[u64],
+    b1: &[u64],
+    c0: &[u64],
+    c1: &[u64],
+    k: u64,
+) -> bool
+    requires { ⌜ (k < 64) × Whole k (now a0) (now a1) (now d0) (now d1) (now b0) (now b1) (now c0) (now c1) ⌝ }
+    requires { ⌜ Outer k (now a0) (now a1) (now d0) (now d1) (now b0) (now b1) (now c0) (now c1) ⌝ }
+    ensures { λ r. ⌜ Decides r (SameProducts k (now (a1 .entry)) (now (b0 .entry)) (now (a0 .entry)) (now (b1 .entry))) ⌝ }
+{
+    let one = a0.len() + a1.len() + b0.len() + b1.len();
+    let other = c0.len() + c1.len() + d0.len() + d1.len();
+    if other < one {
+        return same(c1, d0, c0, d1, k);
+    }
+    same(a1, b0, a0, b1, k)
+}

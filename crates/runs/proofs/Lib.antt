@@ -1,0 +1,2 @@
+-- Laws of what is read off runs.
+pub mod Facts

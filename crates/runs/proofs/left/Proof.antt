@@ -1,0 +1,25 @@
+-- `runs::left` is the mask's width, or k where that is smaller. Assumes nothing.
+use mathlib.Core.Path.{sym, subst}
+use Rattle.runs.specs.Read.{Left}
+use Rattle.runs.proofs.Facts.{left-by-width, left-all}
+use native.Mathlib.Omega.{arith}
+use borrow.Author.Needs.{needs}
+use Rattle.runs.proofs.left.Statement.{statement}
+use Rattle.runs.proofs.left.Tie as tie
+use Rattle.runs.proofs.left.Reads as reads
+use Rattle.runs.proofs.left.Lts as lts
+use Rattle.terms.proofs.width_of.Reads as width-of-reads
+
+width-of-requires : tie.Need-width-of-requires
+width-of-requires c κs = search needs
+
+returns : tie.Need-returns
+returns c =
+    subst (Left (c .before .before .args .m) (c .before .before .args .k)) (sym (c .before .width-of .ensures))
+    (left-by-width (c .before .before .args .m) (c .before .before .args .k) (omega (arith, c .before .width-of .ensures)))
+
+returns-2 : tie.Need-returns-2
+returns-2 c = left-all (c .before .before .args .m) (c .before .before .args .k)
+
+pub left-spec : {M : Type 1} → statement M
+left-spec = tie.close (tie.spec width-of-requires returns returns-2)
