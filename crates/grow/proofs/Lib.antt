@@ -1,0 +1,9 @@
+pub mod Differences
+pub mod Written
+pub mod Picking
+pub mod Tests
+pub mod Growing
+pub mod LaidOut
+pub mod Counting
+pub mod Deciding
+pub mod Rounds

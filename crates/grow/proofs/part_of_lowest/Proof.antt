@@ -1,0 +1,93 @@
+use native.Mathlib.Omega.{arith}
+use borrow.Author.Needs.{needs}
+use Prim.Native.Nat.{ℕ, _-_}
+use mathlib.Core.Path.{_≡_, refl, _∙_}
+use Rattle.grow.proofs.Rounds.{first-round, ready-for-step, ends-whole, ends-growing}
+use lib.ListN.{length, take}
+use Rattle.splitting.proofs.Growing.{Growing}
+use Rattle.grow.proofs.part_of_lowest.Statement.{statement}
+use Rattle.grow.proofs.part_of_lowest.Tie as tie
+use Rattle.grow.proofs.part_of_lowest.Reads as reads
+use Rattle.grow.proofs.part_of_lowest.Lts as lts
+use Rattle.grow.proofs.one_step.Reads as one-step-reads
+
+abbrev Inv-loop : tie.InvT-loop
+Inv-loop work₀ n all y₀ work y =
+    (take n work ≡ take n work₀) × (length work ≡ length work₀) × ((i : ℕ) × Growing (take n work₀) i y)
+
+abbrev μ-loop : tie.MeasureT-loop
+μ-loop work₀ n all y₀ work y = all - y
+
+sub-y : tie.Need-sub-y Inv-loop μ-loop
+sub-y c = search needs
+
+loop-holds : tie.Need-loop-holds Inv-loop μ-loop
+loop-holds c =
+    let start = c .before in
+    let a = start .args in
+    (refl, refl, first-round (a .work .now) (a .n) (a .all) (start .pre .0) (start .pre .1))
+
+one-step-requires : tie.Need-one-step-requires Inv-loop μ-loop
+one-step-requires c κs =
+    let start = c .before .before .before in
+    let a = start .args in
+    let here = c .before .loop in
+    ready-for-step (a .work .now) (here .work) (a .n) (a .all) (here .y) (here .inv .2 .0) (start .pre .0) (here .inv .0) (here .inv .1) (here .inv .2 .1)
+
+enum-known-made : tie.Need-enum-known-made Inv-loop μ-loop
+enum-known-made c = search needs
+
+same-length : tie.Need-same-length Inv-loop μ-loop
+same-length c = search needs
+
+returns : tie.Need-returns Inv-loop μ-loop
+returns c =
+    let start = c .before .before .before .before .before .before .before .before .before in
+    let a = start .args in
+    let here = c .before .before .before .before .before .before .before .loop in
+    let made = c .before .before .before .before .before .one-step in
+    ends-whole (a .work .now) (here .work) (a .n) (a .all) (here .y) (here .inv .2 .0) (start .pre .0) (here .inv .0) (here .inv .1) (here .inv .2 .1)
+    (made .last .0) (made .result) (made .ensures) (c .before .made .given .0 .0) (c .before .made .given .0 .1 .0) (c .before .made .given .1)
+
+enum-known-made-2 : tie.Need-enum-known-made-2 Inv-loop μ-loop
+enum-known-made-2 c = search needs
+
+loop-less : tie.Need-loop-less Inv-loop μ-loop
+loop-less c =
+    let start = c .before .before .before .before .before .before .before .before .before in
+    let a = start .args in
+    let here = c .before .before .before .before .before .before .before .loop in
+    let made = c .before .before .before .before .before .one-step in
+    let grown =
+    ends-growing (a .work .now) (here .work) (a .n) (a .all) (here .y) (here .inv .2 .0) (start .pre .0) (here .inv .0) (here .inv .1) (here .inv .2 .1)
+    (made .last .0) (made .result) (made .ensures) (c .before .made2 .given .0 .0) (c .before .made2 .given .1)
+    in
+    omega (arith, grown .2, grown .3)
+
+loop-again : tie.Need-loop-again Inv-loop μ-loop
+loop-again c =
+    let start = c .before .before .before .before .before .before .before .before .before in
+    let a = start .args in
+    let here = c .before .before .before .before .before .before .before .loop in
+    let made = c .before .before .before .before .before .one-step in
+    let grown =
+    ends-growing (a .work .now) (here .work) (a .n) (a .all) (here .y) (here .inv .2 .0) (start .pre .0) (here .inv .0) (here .inv .1) (here .inv .2 .1)
+    (made .last .0) (made .result) (made .ensures) (c .before .made2 .given .0 .0) (c .before .made2 .given .1)
+    in
+    (grown .0, made .kept .0 ∙ here .inv .1, (here .inv .2 .0, grown .1))
+
+pub part-of-lowest-spec : {M : Type 1} → statement M
+part-of-lowest-spec =
+    tie.close
+    (tie.spec
+    Inv-loop
+    μ-loop
+    sub-y
+    loop-holds
+    one-step-requires
+    enum-known-made
+    same-length
+    returns
+    enum-known-made-2
+    loop-less
+    loop-again)

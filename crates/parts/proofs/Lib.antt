@@ -1,0 +1,6 @@
+pub mod Copying
+pub mod Taking
+pub mod Splitting
+pub mod Round
+pub mod Ends
+pub mod Determined

@@ -1,0 +1,96 @@
+-- Where split stands between two parts: some parts are written, and whatever the parts of the rest are, with them they are the parts
+-- of the whole. One law for the start, one for a round, one for the end.
+use Prim.Native.Nat.{ℕ, suc, _+_, _-_, _*_, _≤_, _<_}
+use mathlib.Core.Path.{_≡_, refl, sym, ap, ap₂, _∙_, subst}
+use mathlib.Core.List.{List, [], _∷_, _++_, append-assoc, append-nil}
+use native.Mathlib.Omega.{arith}
+use native.Mathlib.Nat.{le-of-eq}
+use native.Mathlib.Numerals.{add-one}
+use lib.Count.{ones}
+use lib.ListN.{length, getD, take, drop, set, length-append, length-drop, length-set, drop-of-length-le}
+use lib.Seq.{take-at, drop-at, take-all, drop-drop, drop-cons, set-at}
+use Rattle.polys.specs.List.{Asc}
+use Rattle.polys.specs.Poly.{vars, onto, off}
+use Rattle.polys.specs.Parts.{IsParts}
+use Rattle.answer.specs.Ending.{over}
+use Rattle.parts.specs.Split.{joined, lengths}
+
+-- t is the number of terms of f, and m bounds the number of its variables
+pub record Splitting (f terms lens : List ℕ) (t m : ℕ) (terms' lens' work : List ℕ) (n at k all : ℕ) : Type 0 where
+  pub done : List (List ℕ)
+  pub counted : k ≡ length done
+  pub placed : at ≡ length (joined done)
+  pub stored : terms' ≡ joined done ++ drop at terms
+  pub noted : lens' ≡ lengths done ++ drop k lens
+  pub terms-long : length terms' ≡ length terms
+  pub lens-long : length lens' ≡ length lens
+  pub ascends : Asc (take n work)
+  pub some : 0 < n
+  pub room : n + (n + n) ≤ length work
+  pub variables : all ≡ vars (take n work)
+  pub few : k + ones all ≤ m
+  pub fits : at + n ≤ t + k
+  pub onwards : (qs : List (List ℕ)) → IsParts (take n work) qs → IsParts f (done ++ qs)
+
+pub joined-append : (ps qs : List (List ℕ)) → joined (ps ++ qs) ≡ joined ps ++ joined qs
+unfolding joined
+joined-append [] qs = refl
+joined-append (p ∷ ps) qs = ap (_++_ p) (joined-append ps qs) ∙ sym (append-assoc p (joined ps) (joined qs))
+
+pub joined-one : (p : List ℕ) → joined (p ∷ []) ≡ p
+unfolding joined
+joined-one p = append-nil p
+
+pub lengths-append : (ps qs : List (List ℕ)) → lengths (ps ++ qs) ≡ lengths ps ++ lengths qs
+lengths-append [] qs = refl
+lengths-append (p ∷ ps) qs = ap (_∷_ (length p)) (lengths-append ps qs)
+
+-- nothing is written yet
+pub splitting-start : (f terms lens work : List ℕ) (t m all : ℕ) → take t work ≡ f → Asc f → 0 < t → t + (t + t) ≤ length work
+    → all ≡ vars (take (t - 0) work) → ones all ≤ m → Splitting f terms lens t m terms lens work t 0 0 all
+unfolding joined
+splitting-start f terms lens work t m all e asc some room vs few =
+    let whole : t - 0 ≡ t = omega arith in
+    record {
+      done = [];
+      counted = refl;
+      placed = refl;
+      stored = refl;
+      noted = refl;
+      terms-long = refl;
+      lens-long = refl;
+      ascends = subst Asc (sym e) asc;
+      some = some;
+      room = room;
+      variables = vs ∙ ap (λ (k : ℕ). vars (take k work)) whole;
+      few = omega arith;
+      fits = omega arith;
+      onwards = λ qs parts. subst (λ (g : List ℕ). IsParts g qs) e parts;
+    }
+
+-- one part more in the room behind the last one
+module _ (front behind terms : List ℕ) (at : ℕ) (placed : at ≡ length front) (stored : behind ≡ front ++ drop at terms) (long : length behind ≡ length terms) where
+  lent : drop at behind ≡ drop at terms
+  lent = ap (drop at) stored ∙ drop-at front (drop at terms) at (sym placed)
+
+  kept : take at behind ≡ front
+  kept = ap (take at) stored ∙ take-at front (drop at terms) at (sym placed)
+
+  pub stored-one-more : (p : List ℕ)
+      → take at behind ++ (over p (take (length behind - at) (drop at behind)) ++ drop (length behind - at) (drop at behind))
+      ≡ (front ++ p) ++ drop (at + length p) terms
+  stored-one-more p =
+      let rest : length (drop at behind) ≡ length behind - at = length-drop at behind in
+      let all : take (length behind - at) (drop at behind) ≡ drop at terms = take-all (length behind - at) (drop at behind) (le-of-eq rest) ∙ lent in
+      let none : drop (length behind - at) (drop at behind) ≡ [] = drop-of-length-le (drop at behind) (le-of-eq rest) in
+      ap₂ (λ (a b : List ℕ). a ++ b) kept
+      (ap₂ (λ (a b : List ℕ). over p a ++ b) all none ∙ append-nil (over p (drop at terms)) ∙ ap (_++_ p) (drop-drop (length p) at terms))
+      ∙ sym (append-assoc front p (drop (at + length p) terms))
+
+-- one length more
+pub noted-one-more : (front lens lens' : List ℕ) (k v : ℕ) → k ≡ length front → lens' ≡ front ++ drop k lens → k < length lens
+    → set lens' k v ≡ (front ++ (v ∷ [])) ++ drop (k + 1) lens
+noted-one-more front lens lens' k v counted noted h =
+    ap (λ (l : List ℕ). set l k v) (noted ∙ ap (_++_ front) (drop-cons lens k 0 h))
+    ∙ set-at front (getD lens k 0) (drop (suc k) lens) v k (sym counted)
+    ∙ sym (append-assoc front (v ∷ []) (drop (suc k) lens)) ∙ ap (λ (j : ℕ). (front ++ (v ∷ [])) ++ drop j lens) (sym (add-one k))

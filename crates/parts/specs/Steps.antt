@@ -1,0 +1,28 @@
+-- What the steps of split promise each other. Nothing here has to be believed: these records only carry the proof of split's
+-- promise (Split.antt) from function to function.
+use Prim.Native.Nat.{ℕ, _+_, _≤_, _<_}
+use mathlib.Core.Path.{_≡_}
+use mathlib.Core.List.{List, [], _∷_, _++_, map}
+use lib.Count.{ones}
+use lib.ListN.{length, take, drop}
+use Rattle.polys.specs.List.{Asc}
+use Rattle.polys.specs.Poly.{vars, onto, off}
+use Rattle.polys.specs.Parts.{IsParts}
+use Rattle.grow.specs.Steps.{PartOfLowest}
+use Rattle.answer.specs.Ending.{over}
+use Rattle.parts.specs.Split.{joined, lengths}
+
+-- the part of the lowest variable of f is written into the room, and the rest stands in the work area
+pub record Taken (f room room' work' : List ℕ) (n y part rest : ℕ) : Type 0 where
+  pub lowest : PartOfLowest f y
+  pub written : room' ≡ over (onto y f) room
+  pub part-count : part ≡ length (onto y f)
+  pub left : take rest work' ≡ off y f
+  pub rest-count : rest ≡ length (off y f)
+  pub part-fits : part ≤ n
+  pub rest-fits : rest ≤ n
+
+-- the parts of f are written
+abbrev pub Written : List ℕ → List ℕ → List ℕ → List ℕ → List ℕ → ℕ → Type 0
+Written f terms lens terms' lens' k =
+    (ps : List (List ℕ)) × IsParts f ps × (k ≡ length ps) × (terms' ≡ over (joined ps) terms) × (lens' ≡ over (lengths ps) lens)

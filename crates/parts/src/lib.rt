@@ -1,0 +1,136 @@
+// Split (document 01): an equation's irreducible parts, each written into the room behind the last one.
+use answer::Outcome;
+use terms::TermList;
+ghost use mathlib.Core.Path.{_≡_};
+ghost use Prim.Native.Nat.{ℕ, _+_, _≤_, _<_};
+ghost use mathlib.Core.List.{_++_};
+ghost use lib.ListN.{length, take, drop, replicate};
+ghost use lib.Count.{ones};
+ghost use Rattle.polys.specs.List.{Asc};
+ghost use Rattle.polys.specs.Poly.{vars};
+ghost use Rattle.grow.specs.Steps.{Ready};
+ghost use Rattle.answer.specs.Ending.{over};
+ghost use Rattle.parts.specs.Split.{SplitEnds};
+ghost use Rattle.parts.specs.Steps.{Taken, Written};
+
+// The list, written at the start of the room.
+fn put(list: &[u64], room: &mut [u64])
+    requires { ⌜ length (now list) ≤ length (now room) ⌝ }
+    ensures { λ _. ⌜ now (room .exit) ≡ over (now (list .entry)) (now (room .entry)) ⌝ }
+{
+    let mut i = 0;
+    while i < list.len() {
+        room[i] = list[i];
+        i += 1;
+    }
+}
+
+// The `count` words from `from` on, moved to the start.
+fn move_down(work: &mut [u64], from: usize, count: usize)
+    requires { ⌜ (count ≤ from) × (from + count ≤ length (now work)) ⌝ }
+    ensures { λ _. ⌜ take count (now (work .exit)) ≡ take count (drop from (now (work .entry))) ⌝ }
+{
+    let mut i = 0;
+    while i < count {
+        work[i] = work[from + i];
+        i += 1;
+    }
+}
+
+// Every word 0.
+fn clear(work: &mut [u64])
+    ensures { λ _. ⌜ now (work .exit) ≡ replicate (length (now (work .entry))) 0 ⌝ }
+{
+    let mut i = 0;
+    while i < work.len() {
+        work[i] = 0;
+        i += 1;
+    }
+}
+
+// Takes the part of the lowest variable out of the list in the first n words: writes it into the room, and leaves the rest in the list's place.
+fn take_part(work: &mut [u64], n: usize, all: u64, room: &mut [u64]) -> grow::Counts
+    requires { ⌜ Ready (take n (now work)) (now work) n 0 all × (0 < all) × (n ≤ length (now room)) ⌝ }
+    ensures { λ r. ⌜ ((y : ℕ) × Taken (take n (now (work .entry))) (now (room .entry)) (now (room .exit)) (now (work .exit)) n y (r .part) (r .rest)) ⌝ }
+{
+    let found = grow::part_of_lowest(work, n, all);
+    let part = found.part;
+    let rest = found.rest;
+    let end = n + part;
+    put(&work[n..end], room);
+    move_down(work, n + n, rest);
+    grow::Counts { part, rest }
+}
+
+// Writes all parts of the list in the first t words, and their lengths; gives back how many there are.
+fn write_parts(
+    part_terms: &mut [u64],
+    part_lengths: &mut [u64],
+    work: &mut [u64],
+    t: usize,
+) -> usize
+    requires { do
+      ⌜ Asc (take t (now work)) × (0 < t) × (t + (t + t) ≤ length (now work))
+          × ((← ⟦TermList::MAX_VARS⟧) ≤ length (now «part_lengths»)) × (t + (← ⟦TermList::MAX_VARS⟧) ≤ length (now «part_terms»)) ⌝ }
+    ensures { λ r. ⌜ Written (take t (now (work .entry))) (now («part_terms» .entry)) (now («part_lengths» .entry))
+        (now («part_terms» .exit)) (now («part_lengths» .exit)) r ⌝ }
+{
+    let mut n = t;
+    let mut at = 0;
+    let mut k = 0;
+    let mut all = terms::variables(&work[0..n]);
+    while all != 0 {
+        let counts = take_part(work, n, all, &mut part_terms[at..]);
+        let part = counts.part;
+        part_lengths[k] = part as u64;
+        at += part;
+        k += 1;
+        n = counts.rest;
+        all = terms::variables(&work[0..n]);
+    }
+    k
+}
+
+// The irreducible parts of an equation: document 01's split.
+pub fn split(
+    list: &[u64],
+    part_terms: &mut [u64],
+    part_lengths: &mut [u64],
+    work: &mut [u64],
+) -> Outcome
+    ensures { λ r. do
+      ⌜ SplitEnds (← ⟦TermList::MAX_TERMS⟧ .entry) (← ⟦TermList::MAX_VARS⟧ .entry) (now (list .entry))
+          (record { terms = now («part_terms» .entry); lengths = now («part_lengths» .entry); work = now (work .entry) })
+          r
+          (record { terms = now («part_terms» .exit); lengths = now («part_lengths» .exit); work = now (work .exit) }) ⌝ }
+{
+    let t = list.len();
+    if TermList::MAX_TERMS < t {
+        return Outcome::TooMany { operand: 1 };
+    }
+    if t == 0 {
+        return Outcome::Zero;
+    }
+    let place = terms::first_unordered(list);
+    if place < t {
+        return Outcome::Order {
+            operand: 1,
+            place: place as u64,
+        };
+    }
+    if part_terms.len() < t + TermList::MAX_VARS {
+        return Outcome::Room { operand: 1 };
+    }
+    if part_lengths.len() < TermList::MAX_VARS {
+        return Outcome::Room { operand: 1 };
+    }
+    if work.len() < 4 * t {
+        return Outcome::Work;
+    }
+    put(list, work);
+    let count = write_parts(part_terms, part_lengths, work, t);
+    clear(work);
+    Outcome::Done {
+        count: count as u64,
+    }
+}
