@@ -1,0 +1,79 @@
+-- Document 01, "Checked examples": every example marked P, once, in the document's order, and what it means that one holds.
+-- It holds by what the calls promise: the contract allows an end, and every end that it allows is the one that the row states.
+use Prim.Native.Nat.{ℕ, _+_, _*_, _≤_}
+use mathlib.Core.Path.{_≡_}
+use mathlib.Core.Bool.{Bool, true, false}
+use mathlib.Core.List.{List, [], _∷_}
+use lib.ListN.{length, replicate}
+use Rattle.answer.specs.declared.Answer.{Answer}
+use Rattle.answer.specs.declared.Outcome.{Outcome}
+use Rattle.answer.specs.Table.{numbersOf, accepted, refused}
+use Rattle.answer.specs.Ending.{over}
+use Rattle.parts.specs.Split.{Buffers, joined, lengths, SplitEnds}
+use Rattle.ring.specs.Same.{one-if}
+use Rattle.same.specs.Same.{SameEnds}
+
+-- an example: a call on given lists, and what comes back
+pub data Row : Type 0 where
+  -- split of f is accepted, with these parts
+  splits : (f : List ℕ) (ps : List (List ℕ)) → Row
+  -- split of f is refused, with this code and place
+  refuses : (f : List ℕ) (code place : ℕ) → Row
+  -- same products of A, D, B and C is yes or no
+  same-products : (a d b c : List ℕ) (answer : Bool) → Row
+
+-- the two answers of same products
+abbrev yes : Bool
+yes = true
+
+abbrev no : Bool
+no = false
+
+-- the examples marked P, in the document's order
+unfoldable pub examples : List Row
+examples =
+    refuses [] 1 0
+    ∷ splits (0 ∷ []) []
+    ∷ splits (1 ∷ []) ((1 ∷ []) ∷ [])
+    ∷ splits (0 ∷ 1 ∷ []) ((0 ∷ 1 ∷ []) ∷ [])
+    ∷ splits (3 ∷ []) ((1 ∷ []) ∷ (2 ∷ []) ∷ [])
+    ∷ splits (0 ∷ 3 ∷ []) ((0 ∷ 3 ∷ []) ∷ [])
+    ∷ splits (0 ∷ 1 ∷ 2 ∷ []) ((0 ∷ 1 ∷ 2 ∷ []) ∷ [])
+    ∷ splits (1 ∷ 2 ∷ 5 ∷ 6 ∷ []) ((1 ∷ 2 ∷ []) ∷ (0 ∷ 4 ∷ []) ∷ [])
+    ∷ splits (6 ∷ 7 ∷ 12 ∷ 13 ∷ []) ((0 ∷ 1 ∷ []) ∷ (2 ∷ 8 ∷ []) ∷ (4 ∷ []) ∷ [])
+    ∷ splits (4 ∷ 7 ∷ 12 ∷ 15 ∷ 16 ∷ 19 ∷ []) ((0 ∷ 3 ∷ []) ∷ (4 ∷ 12 ∷ 16 ∷ []) ∷ [])
+    ∷ refuses (1 ∷ 1 ∷ []) 3 1
+    ∷ refuses (2 ∷ 1 ∷ []) 3 1
+    ∷ same-products (1 ∷ []) (1 ∷ []) (1 ∷ []) (0 ∷ []) no
+    ∷ same-products (0 ∷ 1 ∷ []) (0 ∷ 2 ∷ []) (0 ∷ 1 ∷ []) (0 ∷ []) no
+    ∷ []
+
+-- the lent buffers are as long as split of t terms needs, whatever they hold
+pub record Enough (maxVars t : ℕ) (lent : Buffers) : Type 0 where
+  pub terms : t + maxVars ≤ length (lent .terms)
+  pub lengths : maxVars ≤ length (lent .lengths)
+  pub work : 4 * t ≤ length (lent .work)
+
+-- a call ends with these four numbers and these buffers, and in no other way
+pub record EndsOnly {B : Type 0} (ends : Outcome → B → Type 0) (answer : Answer) (buffers : B) : Type 0 where
+  pub allowed : (outcome : Outcome) × ends outcome buffers × (numbersOf outcome ≡ answer)
+  pub only : (outcome : Outcome) (new : B) → ends outcome new → (numbersOf outcome ≡ answer) × (new ≡ buffers)
+
+-- the buffers after an accepted split: the parts one behind the other, their lengths in order, the work area 0
+abbrev pub written : List (List ℕ) → Buffers → Buffers
+written ps lent =
+    record { terms = over (joined ps) (lent .terms); lengths = over (lengths ps) (lent .lengths); work = replicate (length (lent .work)) 0 }
+
+-- the example holds
+abbrev pub Holds : (maxTerms maxVars : ℕ) → Row → Type 0
+Holds maxTerms maxVars (splits f ps) =
+    (lent : Buffers) → Enough maxVars (length f) lent → EndsOnly (SplitEnds maxTerms maxVars f lent) (accepted (length ps)) (written ps lent)
+Holds maxTerms maxVars (refuses f code place) =
+    (lent : Buffers) → EndsOnly (SplitEnds maxTerms maxVars f lent) (refused code 1 place) lent
+Holds maxTerms maxVars (same-products a d b c answer) =
+    EndsOnly {B = Unit {0}} (λ outcome _. SameEnds maxTerms maxVars a d b c outcome) (accepted (one-if answer)) tt
+
+-- every example of a list holds
+abbrev pub AllHold : (maxTerms maxVars : ℕ) → List Row → Type 0
+AllHold maxTerms maxVars [] = Unit {0}
+AllHold maxTerms maxVars (row ∷ rows) = Holds maxTerms maxVars row × AllHold maxTerms maxVars rows
