@@ -1,0 +1,161 @@
+/* Apfelruder: sums mod 2 of products, split into parts with no common variable.
+ *
+ * The five calls of document 01 (exact scope and rules), for C and C++. The library behind them is
+ * proved: for every input, each call gives the answer and leaves the buffers that this page describes.
+ * What no proof covers is this declaration itself and what a caller passes: see "Memory" below.
+ *
+ * Words
+ *   term    a 64-bit number; bit i is the variable xi; 0 is the constant term 1.
+ *   list    a strictly ascending array of at most APFELRUDER_MAX_TERMS terms: a polynomial.
+ *           The empty list is zero, the list of the single term 0 is one.
+ *   part    an irreducible factor. The parts of a list have no common variable; their product is the list.
+ *   block   a polynomial packed into bytes (document 01, "The packed block").
+ *
+ * Answers
+ *   Every call returns four numbers by value.
+ *     accepted: code 0, operand 0, place 0; count as told at each call.
+ *     refused:  code 1 to 13, count 0, and every buffer holds what it held before the call.
+ *               operand: which of the inputs, from 1 in the order of the call; 0 for multiply's Shared,
+ *                        TooLarge and Room, which concern no single list.
+ *               place:   for Order the index, from 0, of the first term that is not above the one
+ *                        before it, in that operand's own list; 0 with every other code.
+ *
+ * Memory
+ *   A slice is a pointer and the number of its elements (not bytes), in this order.
+ *   - Length 0 is allowed everywhere: an empty list is an input like any other, an empty output is
+ *     simply too short for anything. The pointer that comes with length 0 is never followed; pass a
+ *     non-null, suitably aligned one all the same (any object's address will do).
+ *   - A null pointer with a length above 0 is an error of the caller: it is not noticed and not refused.
+ *   - An output (part_terms, part_lengths, work, out) may overlap no other slice of the same call,
+ *     neither an input nor another output. Overlap is not noticed, and nothing is promised then.
+ *     Inputs may overlap one another: same_products(a, a, a, a) is fine.
+ *   - The library keeps no pointer, allocates nothing, has no state, and prints nothing. Calls from
+ *     several threads at once are independent as long as no output of one is a slice of another.
+ *   - It takes its room from the stack: some 50 kilobytes for same_products, which recurses once for each variable
+ *     at most, and less for the others. Leave it 256 kilobytes where threads have small stacks.
+ */
+#ifndef APFELRUDER_H
+#define APFELRUDER_H
+
+#include <stddef.h>
+#include <stdint.h>
+
+/* The interface described here. A later version that adds a number n to the answers, or raises a limit,
+ * has another major number. */
+#define APFELRUDER_VERSION_MAJOR 1
+#define APFELRUDER_VERSION_MINOR 0
+#define APFELRUDER_VERSION (APFELRUDER_VERSION_MAJOR * 1000 + APFELRUDER_VERSION_MINOR)
+
+/* Limits of a list. */
+#define APFELRUDER_MAX_TERMS 1024
+#define APFELRUDER_MAX_VARS 64
+
+/* What split needs for a list of t terms, in words of 64 bits. */
+#define APFELRUDER_PART_TERMS_WORDS(t) ((size_t)(t) + 64)
+#define APFELRUDER_PART_LENGTHS_WORDS 64
+#define APFELRUDER_WORK_WORDS(t) (4 * (size_t)(t))
+
+/* The longest block: 3 bytes and 1,024 terms of 64 bits. */
+#define APFELRUDER_MAX_BLOCK_BYTES 8195
+
+/* The codes of refusal, and when each is given. */
+enum {
+    APFELRUDER_ACCEPTED = 0,
+    APFELRUDER_ZERO = 1,      /* split of the empty list */
+    APFELRUDER_TOO_MANY = 2,  /* a list longer than 1,024 terms, or a block that says t above 1,024 */
+    APFELRUDER_ORDER = 3,     /* a term not above the one before it; place = its first such index */
+    APFELRUDER_SHARED = 4,    /* multiply: a variable in both lists */
+    APFELRUDER_TOO_LARGE = 5, /* multiply: the product of the two lengths is above 1,024 */
+    APFELRUDER_ROOM = 6,      /* an output is too short */
+    APFELRUDER_WORK = 7,      /* split: the work area is shorter than 4 words a term */
+    APFELRUDER_FORM = 8,      /* read: the form number is not 1 */
+    APFELRUDER_WIDE = 9,      /* read: n above 64 */
+    APFELRUDER_SHORT = 10,    /* read: the bytes end before the block does */
+    APFELRUDER_MISFIT = 11,   /* read: n is larger than one more than the highest variable */
+    APFELRUDER_EXTRA = 12,    /* read: bytes after the block */
+    APFELRUDER_PAD = 13       /* read: a padding bit is set */
+};
+
+typedef struct {
+    uint64_t code, operand, place, count;
+} apfelruder_answer;
+
+#ifdef __cplusplus
+extern "C" {
+#endif
+
+/* Splits a list into its parts.
+ *
+ * Needs   terms: the list, t terms. part_terms: t + 64 words. part_lengths: 64 words. work: 4 t words.
+ *         The sizes are asked for even where the parts would fit into less.
+ * Gives   count = the number of parts, 0 to 64. The parts lie one after another from the start of
+ *         part_terms, each ascending, in ascending order of their lowest variable; part_lengths holds
+ *         their lengths in the same order. The lengths multiply to t. A variable in every term is a
+ *         part of its own; the list {0} has no parts; variables keep their numbers.
+ *         Every word of work, also behind 4 t, is 0. Words of part_terms and part_lengths behind what
+ *         was written are unchanged.
+ * Refuses in this order, operand 1 throughout:
+ *         2 TooMany (t above 1,024), 1 Zero (t = 0), 3 Order (place = index of the term),
+ *         6 Room (part_terms under t + 64 words), 6 Room (part_lengths under 64 words),
+ *         7 Work (work under 4 t words).
+ */
+apfelruder_answer apfelruder_split(const uint64_t *terms, size_t terms_len,
+                                   uint64_t *part_terms, size_t part_terms_len,
+                                   uint64_t *part_lengths, size_t part_lengths_len,
+                                   uint64_t *work, size_t work_len);
+
+/* Multiplies two lists that have no common variable.
+ *
+ * Needs   a and b: the lists. out: exactly the product of their lengths, in words, or more.
+ * Gives   count = that product; the terms of the product, ascending, from the start of out. Zero times
+ *         anything is zero (count 0, nothing written, no room needed). Words behind are unchanged.
+ * Refuses in this order:
+ *         2 TooMany (operand 1: a, then operand 2: b), 3 Order (operand 1, then operand 2; place = index
+ *         in that list), 4 Shared (operand 0), 5 TooLarge (operand 0), 6 Room (operand 0).
+ */
+apfelruder_answer apfelruder_multiply(const uint64_t *a, size_t a_len,
+                                      const uint64_t *b, size_t b_len,
+                                      uint64_t *out, size_t out_len);
+
+/* Says whether A times D equals B times C, exactly, for any four lists.
+ *
+ * Note the order of the arguments: a, d, b, c. Products are ordinary ones here: x times x is x squared
+ * and not x, and lists may share variables. Nothing is written and no product is built.
+ * Needs   the four lists.
+ * Gives   count = 1 for yes, 0 for no.
+ * Refuses in this order:
+ *         2 TooMany (operands 1 to 4 in turn: a, d, b, c), then 3 Order (operands 1 to 4 in turn;
+ *         place = index in that list).
+ */
+apfelruder_answer apfelruder_same_products(const uint64_t *a, size_t a_len,
+                                           const uint64_t *d, size_t d_len,
+                                           const uint64_t *b, size_t b_len,
+                                           const uint64_t *c, size_t c_len);
+
+/* Reads a block.
+ *
+ * Needs   bytes: exactly one block. out: one word for each term that the block's header announces.
+ * Gives   count = the number of terms, written ascending from the start of out. Words behind are unchanged.
+ * Refuses in this order, operand 1 throughout:
+ *         10 Short (under 3 bytes), 8 Form, 9 Wide, 2 TooMany, 10 Short (bytes end before the block),
+ *         12 Extra, 6 Room, 3 Order (place = index of the term, not of a byte), 11 Misfit, 13 Pad.
+ */
+apfelruder_answer apfelruder_read(const uint8_t *bytes, size_t bytes_len,
+                                  uint64_t *out, size_t out_len);
+
+/* Writes a list as a block. One polynomial has one block.
+ *
+ * Needs   terms: the list. out: the bytes of the block, which are 3 and n times t bits rounded up to
+ *         bytes (n one more than the highest variable); APFELRUDER_MAX_BLOCK_BYTES always suffice.
+ * Gives   count = the number of bytes, written from the start of out. Bytes behind are unchanged.
+ * Refuses in this order, operand 1 throughout:
+ *         2 TooMany, 3 Order (place = index of the term), 6 Room.
+ */
+apfelruder_answer apfelruder_write(const uint64_t *terms, size_t terms_len,
+                                   uint8_t *out, size_t out_len);
+
+#ifdef __cplusplus
+}
+#endif
+
+#endif
