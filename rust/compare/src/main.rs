@@ -1,0 +1,162 @@
+//! Compares the proved library with the independent program, through the C boundary.
+//!
+//!     compare [--bridge COMMAND ..]                fixed seeds, a few minutes
+//!     compare --seed N --seconds S [--bridge ..]   random lists, products and blocks for so long
+//!     compare --calls read,write ..                only these calls
+//!     compare --program COMMAND ..                 the printed split of a program
+//!
+//! Without --bridge the archive must have been linked in (feature "linked"). --bridge and --program take the rest of the
+//! line. Prints what was compared; ends with 1 at the first difference.
+mod call;
+mod families;
+mod peer;
+mod printed;
+mod random;
+mod run;
+
+use call::Call;
+use families::{blocks, examples, lists, quadruples, refusals, sizes};
+use peer::{Bridge, Peer};
+use run::Run;
+use std::time::{Duration, Instant};
+
+struct Wishes {
+    seed: Option<u64>,
+    seconds: Option<u64>,
+    calls: Vec<Call>,
+    bridge: Vec<String>,
+    program: Vec<String>,
+}
+
+fn wishes() -> Result<Wishes, String> {
+    let mut wishes = Wishes { seed: None, seconds: None, calls: Call::ALL.to_vec(), bridge: vec![], program: vec![] };
+    let mut words = std::env::args().skip(1);
+    while let Some(word) = words.next() {
+        match word.as_str() {
+            "--bridge" => wishes.bridge = words.by_ref().collect(),
+            "--program" => wishes.program = words.by_ref().collect(),
+            "--seed" => wishes.seed = Some(number(words.next())?),
+            "--seconds" => wishes.seconds = Some(number(words.next())?),
+            "--calls" => wishes.calls = calls(&words.next().unwrap_or_default())?,
+            _ => return Err(format!("unknown word {word}; see the head of compare/src/main.rs")),
+        }
+    }
+    Ok(wishes)
+}
+
+fn number(word: Option<String>) -> Result<u64, String> {
+    let word = word.unwrap_or_default();
+    word.parse().map_err(|_| format!("not a number: \"{word}\""))
+}
+
+fn calls(names: &str) -> Result<Vec<Call>, String> {
+    names
+        .split(',')
+        .map(|name| Call::ALL.into_iter().find(|c| c.name() == name).ok_or(format!("no such call: \"{name}\"")))
+        .collect()
+}
+
+#[cfg(feature = "linked")]
+fn linked() -> Result<Box<dyn Peer>, String> {
+    Ok(Box::new(peer::Linked))
+}
+
+#[cfg(not(feature = "linked"))]
+fn linked() -> Result<Box<dyn Peer>, String> {
+    Err("no archive is linked in: build with the feature \"linked\", or name a --bridge".to_string())
+}
+
+fn main() {
+    if let Err(error) = start() {
+        eprintln!("compare: {error}");
+        std::process::exit(2);
+    }
+}
+
+fn start() -> Result<(), String> {
+    let wishes = wishes()?;
+    if !wishes.program.is_empty() {
+        return printed::compare(&wishes.program, wishes.seed.unwrap_or(1));
+    }
+    let peer: Box<dyn Peer> = match wishes.bridge.is_empty() {
+        true => linked()?,
+        false => Box::new(Bridge::start(&wishes.bridge).map_err(|e| format!("the bridge does not start: {e}"))?),
+    };
+    let names: Vec<&str> = wishes.calls.iter().map(|c| c.name()).collect();
+    let seed = wishes.seed.unwrap_or(1);
+    println!("calls: {}; seed {seed}", names.join(", "));
+    let mut run = Run::new(peer, wishes.calls, seed);
+    match wishes.seconds {
+        None => fixed(&mut run),
+        Some(seconds) => for_a_while(&mut run, Duration::from_secs(seconds)),
+    }
+    run.report();
+    Ok(())
+}
+
+/// The run of the gate.
+fn fixed(run: &mut Run) {
+    examples::all(run);
+    refusals::all(run);
+    sizes::all(run);
+    blocks::random(run, 20_000);
+    blocks::damaged(run, 300, true);
+    blocks::noise(run, 60_000);
+    lists::exhaustive(run);
+    run.family("products with known factors, to 64 terms");
+    lists::products(run, 120_000, 64, true);
+    run.family("products with known factors, to 256 terms");
+    lists::products(run, 3_000, 256, true);
+    run.family("products with known factors, to 1,024 terms");
+    lists::products(run, 6_000, 1024, false);
+    lists::long(run);
+    random_lists(run, 1);
+    quadruples::exhaustive(run);
+    random_quadruples(run, 1);
+    quadruples::long(run);
+}
+
+fn random_lists(run: &mut Run, share: usize) {
+    run.family("near-products, to 64 terms");
+    lists::near_products(run, 40_000 / share, 64);
+    run.family("near-products, to 300 terms");
+    lists::near_products(run, 1_500 / share, 300);
+    run.family("any lists, few variables");
+    lists::random(run, 40_000 / share, 40, &[3, 4, 5, 6, 8]);
+    run.family("any lists, many variables");
+    lists::random(run, 10_000 / share, 40, &[12, 24, 64]);
+    run.family("dense lists, to 256 terms");
+    lists::dense(run, 3_000 / share);
+    run.family("any lists, to 1,024 terms");
+    lists::random(run, (20 / share).max(1), 1024, &[11, 20, 64]);
+}
+
+fn random_quadruples(run: &mut Run, share: usize) {
+    run.family("same: equal by construction");
+    quadruples::equal(run, 40_000 / share, 8, 4, true);
+    quadruples::equal(run, 4_000 / share, 24, 12, true);
+    quadruples::equal(run, 1_000 / share, 64, 32, false);
+    run.family("same: one term changed");
+    quadruples::nearly_equal(run, 40_000 / share, 8, 4, true);
+    quadruples::nearly_equal(run, 4_000 / share, 24, 12, true);
+    quadruples::nearly_equal(run, 1_000 / share, 64, 32, false);
+    run.family("same: any lists");
+    quadruples::random(run, 100_000 / share, 3, 4);
+    quadruples::random(run, 20_000 / share, 6, 10);
+}
+
+/// The run by hand.
+fn for_a_while(run: &mut Run, time: Duration) {
+    let end = Instant::now() + time;
+    while Instant::now() < end {
+        run.family("products with known factors, to 64 terms");
+        lists::products(run, 2_000, 64, true);
+        run.family("products with known factors, to 1,024 terms");
+        lists::products(run, 200, 1024, false);
+        random_lists(run, 50);
+        random_quadruples(run, 50);
+        blocks::random(run, 500);
+        blocks::damaged(run, 10, false);
+        blocks::noise(run, 1_000);
+    }
+}

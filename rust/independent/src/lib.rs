@@ -1,0 +1,23 @@
+//! A second implementation of document 01, for comparison only: written from the document, by other methods than the
+//! proved library, with no code of it. Plain rather than fast.
+//!
+//! - split puts y apart from x where the two products of document 001's rule, multiplied out, agree, and checks
+//!   what it found by multiplying the parts again;
+//! - same products multiplies both sides out;
+//! - multiply makes all unions and sorts them;
+//! - blocks are taken apart and put together bit by bit.
+
+mod answer;
+mod blocks;
+mod parts;
+mod printed;
+mod products;
+
+pub use answer::Answer;
+pub use blocks::{read, write};
+pub use parts::{parts_by_counting, parts_of, split};
+pub use printed::printed_split;
+pub use products::{multiply, same_products};
+
+/// At most so many terms.
+pub const TERMS: usize = 1024;
