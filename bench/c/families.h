@@ -1,0 +1,45 @@
+/* What is measured: a job holds the input of one call and room for its outputs, a family makes one for each seed. */
+#ifndef FAMILIES_H
+#define FAMILIES_H
+
+#include "inputs.h"
+#include "plain.h"
+
+/* The input of one call, room for its outputs, and what came back. */
+typedef struct {
+    poly a, d, b, c;
+    uint8_t block[APFELRUDER_MAX_BLOCK_BYTES];
+    size_t block_bytes;
+    uint64_t words[LONGEST + 64], lengths[64], work[4 * LONGEST];
+    uint8_t bytes[APFELRUDER_MAX_BLOCK_BYTES];
+    size_t result;
+} job;
+
+/* A family: an input for each seed. */
+typedef struct {
+    const char *name;
+    void (*make)(job *j, int size);
+    int size, instances;
+} family;
+
+/* An input whose size grows from 64 to 1,024 terms. */
+typedef struct {
+    const char *name;
+    void (*make)(job *j, int size);
+    int is_split;
+} growing;
+
+extern const family split_families[];
+extern const int split_families_count;
+extern const family multiply_families[];
+extern const int multiply_families_count;
+extern const family same_families[];
+extern const int same_families_count;
+extern const family block_families[];
+extern const int block_families_count;
+extern const growing growing_inputs[];
+extern const int growing_inputs_count;
+
+#define LIST(p) (p).terms, (p).t
+
+#endif
