@@ -1,4 +1,4 @@
--- Document 01: "There is exactly one such set". A polynomial other than zero has exactly one list of parts, and `partsOf` computes it.
+-- There are parts, in one way only (RULES 2.5): a polynomial other than zero has exactly one list of parts, and `partsOf` computes it.
 -- Leans on Smallest for the first part, on splitting's Growing for the rest, and on unique for "exactly one".
 use mathlib.Core.Path.{_≡_, refl, sym, subst}
 use mathlib.Core.Bool.{Bool, true, false}

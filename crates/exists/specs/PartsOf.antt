@@ -1,4 +1,4 @@
--- Document 01: "There is exactly one such set". A function that gives the parts of a polynomial, plain and slow: it tries every set of
+-- A function that gives the parts of a polynomial (RULES 2.5), plain and slow: it tries every set of
 -- variables. It serves to be read and computed on small examples; the split that is run is another.
 use Prim.Native.Nat.{ℕ, zero, suc}
 use mathlib.Core.Bool.{Bool, true, false, _&&_, _||_}

@@ -1,4 +1,4 @@
--- A number as a set of variables (document 01, "Polynomials as lists of terms": bit i stands for variable xi).
+-- A number as a set of variables: bit i tells whether xi is in it (RULES 1.1).
 use Prim.Native.Nat.{ℕ, zero, suc, _/_, _%_}
 use mathlib.Core.Bool.{Bool}
 use lib.Bits.{bitAnd, bitXor}

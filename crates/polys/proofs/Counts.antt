@@ -1,5 +1,5 @@
--- How many terms a product has: document 01, "No two unions are equal, so nothing cancels and the counts multiply." The unions
--- are all different, and collecting different numbers loses none. Assumes nothing.
+-- How many terms a product has (RULES 2.1): the two numbers of terms multiplied. The unions are all different, and collecting
+-- different numbers loses none. Assumes nothing.
 use Prim.Native.Nat.{ℕ, suc, _+_, _*_, _<_}
 use native.Mathlib.Nat.{zero-mul, suc-mul, add-comm}
 use native.Mathlib.Omega.{arith}

@@ -1,4 +1,4 @@
--- Laws of document 01's operations on polynomials (specs/Poly.antt): which terms stand in a projection and in a product, the
+-- Laws of the operations on polynomials (specs/Poly.antt): which terms stand in a projection and in a product, the
 -- variables of a polynomial, and the product's algebra. Lists are compared by their members (Lists), masks by truth table
 -- (masks). Assumes nothing.
 use Prim.Native.Nat.{ℕ, _+_}

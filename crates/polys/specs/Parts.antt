@@ -1,5 +1,5 @@
--- Document 01: "Split gives irreducible parts with no common variable whose product is F. There is exactly one such set; the
--- parts stand in ascending order of their lowest variable, each part ascending."
+-- The parts of a polynomial (RULES 2.5): irreducible lists, no variable in two of them, whose product it is, in order by their
+-- lowest variable.
 use Prim.Native.Nat.{ℕ, _<_, _≤_}
 use mathlib.Core.Path.{_≡_}
 use mathlib.Core.Bool.{Bool, true, false}

@@ -1,1 +1,1 @@
-// Polynomials as lists of terms: document 01's definitions, in specs/, and their laws, in proofs/. No code.
+// Polynomials as lists of terms (RULES 1 and 2): the definitions, in specs/, and their laws, in proofs/. No code.

@@ -1,5 +1,5 @@
 -- The three equations of halves: their symmetries, what is left of them where a half is zero, and which halves may be zero at all
--- (FACTS 5.3 and 5.5). Leans on Ratio.
+-- (RULES 3.3 and 3.4). Leans on Ratio.
 use mathlib.Core.Path.{_≡_, refl, sym, ap, ap₂, _∙_}
 use mathlib.Core.Bool.{Bool, true, false, _&&_, _||_, true≢false}
 use Prim.Native.Nat.{ℕ}
@@ -20,10 +20,6 @@ module _ (n : ℕ) where
     low = e .low ∙ laws n .mul-comm b₀ c₀;
     middle = e .middle ∙ ap₂ (plus n) (laws n .mul-comm b₁ c₀) (laws n .mul-comm b₀ c₁) ∙ laws n .add-comm (times n c₀ b₁) (times n c₁ b₀);
   }
-
-  pub exchange-left : (a₀ a₁ d₀ d₁ b₀ b₁ c₀ c₁ : R n) → Equations n a₀ a₁ d₀ d₁ b₀ b₁ c₀ c₁ → Equations n d₀ d₁ a₀ a₁ b₀ b₁ c₀ c₁
-  exchange-left a₀ a₁ d₀ d₁ b₀ b₁ c₀ c₁ e =
-      exchange-sides b₀ b₁ c₀ c₁ d₀ d₁ a₀ a₁ (exchange-right b₀ b₁ c₀ c₁ a₀ a₁ d₀ d₁ (exchange-sides a₀ a₁ d₀ d₁ b₀ b₁ c₀ c₁ e))
 
   -- with the variable and without it change places
   pub mirror : (a₀ a₁ d₀ d₁ b₀ b₁ c₀ c₁ : R n) → Equations n a₀ a₁ d₀ d₁ b₀ b₁ c₀ c₁ → Equations n a₁ a₀ d₁ d₀ b₁ b₀ c₁ c₀

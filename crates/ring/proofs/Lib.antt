@@ -5,6 +5,8 @@ pub mod Ratio
 pub mod Value
 pub mod Cases
 pub mod Parity
+pub mod Powers
+pub mod Sums
 pub mod Bridge
 pub mod Low
 pub mod Runs
@@ -13,6 +15,6 @@ pub mod Alike
 pub mod Built
 pub mod Lone
 pub mod Multilinear
+pub mod Finite
 pub mod Refine
 pub mod Refined
-pub mod Factors

@@ -1,37 +1,33 @@
 -- One-term operands: u D = v C exactly if the terms of D and C match in order. One way by the coefficients of two terms, the other
 -- variable by variable. Leans on Bridge, Cases and Runs.
 use mathlib.Core.Path.{_≡_, refl, sym, ap, ap₂, _∙_, subst}
-use mathlib.Core.Bool.{Bool, true, false, not, _&&_, true≢false, false≢true}
+use mathlib.Core.Bool.{Bool, true, false, not, true≢false, false≢true}
 use mathlib.Core.List.{List, [], _∷_, _++_}
 use Prim.Native.Nat.{ℕ, zero, suc, _+_, _<_}
-use native.Mathlib.Nat.{not-suc-le-zero, le-of-suc-le-suc, le-refl, zero-lt-suc}
+use native.Mathlib.Nat.{not-suc-le-zero, le-of-suc-le-suc, zero-lt-suc}
 use native.Mathlib.Decide.{decLt}
 use native.Mathlib.Omega.{arith}
-use lib.Dec.{eqb}
 use lib.ListN.{length}
 use Rattle.masks.specs.Bit.{bit}
-use Rattle.ring.specs.Same.{one-if, exponent, gives}
+use Rattle.ring.specs.Same.{one-if}
 use Rattle.ring.specs.Run.{lacking, holding, Run}
-use Rattle.ring.specs.Lone.{Even, Matched}
+use Rattle.ring.specs.Lone.{exponent, Even, Matched}
 use Rattle.ring.proofs.Domain.{mul-zero, add-zero}
 use Rattle.ring.proofs.Series.{R, nought, plus, times, laws}
 use Rattle.ring.proofs.Value.{join, odd, value, value-none, value-more, Equal, Equations, halves-from-product}
 use Rattle.ring.proofs.Cases.{exchange-sides, mirror, free-split}
-use Rattle.ring.proofs.Bridge.{scale, one-term, coef-of-terms, equal-by-coefficients}
+use Rattle.ring.proofs.Powers.{scale, one-term}
+use Rattle.ring.proofs.Sums.{single, single-agrees, single-product, single-of-term}
 use Rattle.ring.proofs.Runs.{AllBits, all-lacking, all-holding, run-nonzero}
 
 -- ---- matching terms make equal products
 
-gives-even : (k : ℕ) (e : ℕ → ℕ) (u x v y : ℕ) → Even k u x v y → gives k e u x ≡ gives k e v y
-unfolding gives
-gives-even zero e u x v y h = refl
-gives-even (suc k) e u x v y h =
-    ap₂ _&&_ (ap (λ (n : ℕ). eqb n (e k)) (h k (le-refl (suc k)))) (gives-even k e u x v y (λ i l. h i (omega arith)))
-
 terms-equal : (k u x v y : ℕ) → Even k u x v y → Equal k (u ∷ []) (x ∷ []) (v ∷ []) (y ∷ [])
-terms-equal k u x v y h =
-    equal-by-coefficients k (times k (value k (u ∷ [])) (value k (x ∷ []))) (times k (value k (v ∷ [])) (value k (y ∷ [])))
-    (λ e. coef-of-terms k u x e ∙ gives-even k e u x v y h ∙ sym (coef-of-terms k v y e))
+terms-equal k u x v y h = product u x ∙ single-agrees k (exponent u x) (exponent v y) h ∙ sym (product v y)
+  where
+    product : (u x : ℕ) → times k (value k (u ∷ [])) (value k (x ∷ [])) ≡ single k (exponent u x)
+    product u x =
+        ap₂ (times k) (single-of-term k u) (single-of-term k x) ∙ sym (single-product k (λ i. one-if (bit u i)) (λ i. one-if (bit x i)))
 
 one-more : (k u x : ℕ) (d : List ℕ) → times k (value k (u ∷ [])) (value k (x ∷ d))
     ≡ plus k (times k (value k (u ∷ [])) (value k (x ∷ []))) (times k (value k (u ∷ [])) (value k d))

@@ -1,4 +1,4 @@
--- Equal products as equal ratios (FACTS 5.5): x w = y z says x / y = z / w, among nonzero elements of a domain an equivalence.
+-- Equal products as equal ratios: x w = y z says x / y = z / w, among nonzero elements of a domain an equivalence.
 -- What the four-list test asks of halves, and why it may ask in another order or about other pairs. Leans on Domain alone.
 use mathlib.Core.Path.{_≡_, sym, ap, ap₂, _∙_}
 use Rattle.ring.proofs.Domain.{Domain, mul-zero, add-mul, add-medial, mul-medial, sum-of-equal, equal-from-sum, cancel-right, add-zero}
@@ -21,14 +21,6 @@ module _ {K : Type 0} {o : K} {_+_ : K → K → K} {_*_ : K → K → K} (L : D
   -- x / y = z / w read the other way round: z / w = x / y
   pub ratio-sym : (x y z w : K) → x * w ≡ y * z → z * y ≡ w * x
   ratio-sym x y z w e = L .mul-comm z y ∙ sym e ∙ L .mul-comm x w
-
-  -- y / x = w / z
-  pub ratio-flip : (x y z w : K) → x * w ≡ y * z → y * z ≡ x * w
-  ratio-flip x y z w e = sym e
-
-  -- x / z = y / w
-  pub ratio-swap : (x y z w : K) → x * w ≡ y * z → x * w ≡ z * y
-  ratio-swap x y z w e = e ∙ L .mul-comm y z
 
   -- ---- eight halves: what the middle equation says once the outer two hold
   module _ (a₀ a₁ d₀ d₁ b₀ b₁ c₀ c₁ : K) (high : a₁ * d₁ ≡ b₁ * c₁) (low : a₀ * d₀ ≡ b₀ * c₀) where

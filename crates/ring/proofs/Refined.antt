@@ -1,4 +1,4 @@
--- Refine (FACTS 6), the theorem: if p q = r s for multilinear p, q, r, s, there are multilinear a, b, c, d with p = a b, q = c d, r = a c,
+-- Refine, the theorem: if p q = r s for multilinear p, q, r, s, there are multilinear a, b, c, d with p = a b, q = c d, r = a c,
 -- s = b d. By induction on the number of variables: two factors share the part that holds the next variable, which cancels.
 use mathlib.Core.Path.{_≡_, refl, sym, ap, ap₂, _∙_, fun-ext}
 use mathlib.Core.Bool.{Bool, true, false, true≢false}
@@ -7,79 +7,9 @@ use Rattle.ring.proofs.Domain.{mul-zero, product-nonzero, cancel-right,
 use Rattle.ring.proofs.Series.{R, nought, plus, times, laws}
 use Rattle.ring.proofs.Ratio.{cross-vanishes}
 use Rattle.ring.proofs.Value.{join, Equations, halves-from-product}
-use Rattle.ring.proofs.Multilinear.{M, none, one, lift, series-of-none, times-free, times-lift, one-times, zero-or-not, sum-zero-or-not}
-use Rattle.ring.proofs.Refine.{σ, Multi, swap-right, stays-multilinear}
-
-pub record Refined (n : ℕ) (p q r s : M n) : Type 0 where
-  pub a : M n
-  pub b : M n
-  pub c : M n
-  pub d : M n
-  pub p-is : σ n p ≡ times n (σ n a) (σ n b)
-  pub q-is : σ n q ≡ times n (σ n c) (σ n d)
-  pub r-is : σ n r ≡ times n (σ n a) (σ n c)
-  pub s-is : σ n s ≡ times n (σ n b) (σ n d)
-
--- ---- symmetries
-
-exchange : (n : ℕ) (p q r s : M n) → Refined n p q s r → Refined n p q r s
-exchange n p q r s f = record {
-  a = f .b;
-  b = f .a;
-  c = f .d;
-  d = f .c;
-  p-is = f .p-is ∙ laws n .mul-comm (σ n (f .a)) (σ n (f .b));
-  q-is = f .q-is ∙ laws n .mul-comm (σ n (f .c)) (σ n (f .d));
-  r-is = f .s-is;
-  s-is = f .r-is;
-}
-
-turn : (n : ℕ) (p q r s : M n) → Refined n q p s r → Refined n p q r s
-turn n p q r s f = record {
-  a = f .d;
-  b = f .c;
-  c = f .b;
-  d = f .a;
-  p-is = f .q-is ∙ laws n .mul-comm (σ n (f .c)) (σ n (f .d));
-  q-is = f .p-is ∙ laws n .mul-comm (σ n (f .a)) (σ n (f .b));
-  r-is = f .s-is ∙ laws n .mul-comm (σ n (f .b)) (σ n (f .d));
-  s-is = f .r-is ∙ laws n .mul-comm (σ n (f .a)) (σ n (f .c));
-}
-
--- ---- a factor that is zero
-
-times-one : (n : ℕ) (x : R n) → x ≡ times n x (σ n (one n))
-times-one n x = sym (laws n .mul-comm x (σ n (one n)) ∙ one-times n x)
-
-none-times : (n : ℕ) (x : R n) → times n (σ n (none n)) x ≡ nought n
-none-times n x = ap (λ (u : R n). times n u x) (series-of-none n) ∙ laws n .zero-mul x
-
-both-zero : (n : ℕ) (p q r s : M n) → σ n p ≡ nought n → σ n r ≡ nought n → Refined n p q r s
-both-zero n p q r s zp zr = record {
-  a = none n;
-  b = s;
-  c = q;
-  d = one n;
-  p-is = zp ∙ sym (none-times n (σ n s));
-  q-is = times-one n (σ n q);
-  r-is = zr ∙ sym (none-times n (σ n q));
-  s-is = times-one n (σ n s);
-}
-
-zero-first : (n : ℕ) (p q r s : M n) → times n (σ n p) (σ n q) ≡ times n (σ n r) (σ n s) → σ n p ≡ nought n → Refined n p q r s
-zero-first n p q r s e zp = go (zero-or-not n r)
-  where
-    go : Dec (σ n r ≡ nought n) → Refined n p q r s
-    go (yes zr) = both-zero n p q r s zp zr
-    go (no nr) =
-        exchange n p q r s
-        (both-zero n p q s r zp
-        (laws n .no-zero-divisors (σ n r) (σ n s) nr (sym e ∙ ap (λ (u : R n). times n u (σ n q)) zp ∙ laws n .zero-mul (σ n q))))
-
-zero-second : (n : ℕ) (p q r s : M n) → times n (σ n p) (σ n q) ≡ times n (σ n r) (σ n s) → σ n q ≡ nought n → Refined n p q r s
-zero-second n p q r s e zq =
-    turn n p q r s
-    (zero-first n q p s r (laws n .mul-comm (σ n q) (σ n p) ∙ e ∙ laws n .mul-comm (σ n r) (σ n s)) zq)
+use Rattle.ring.proofs.Multilinear.{M, none, lift, times-free, times-lift}
+use Rattle.ring.proofs.Finite.{Multi, zero-or-not}
+use Rattle.ring.proofs.Refine.{σ, swap-right, stays-multilinear, sum-zero-or-not, Refined, exchange, none-times, zero-first, zero-second}
 
 -- ---- no variable
 

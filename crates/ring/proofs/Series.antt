@@ -1,9 +1,9 @@
--- Power series over a domain of characteristic two are one again, and so are the series in n variables over Bool (FACTS 5.2):
+-- Power series over a domain of characteristic two are one again, and so are the series in n variables over Bool:
 -- R 0 = Bool with xor and and, R (n + 1) = the series over R n, functions from the exponents of the next variable to R n.
 use mathlib.Core.Path.{_≡_, refl, sym, ap, ap₂, _∙_, fun-ext}
 use mathlib.Core.Bool.{Bool, true, false, _&&_, xor, true≢false, false≢true}
 use Prim.Native.Nat.{ℕ, zero, suc}
-use Rattle.ring.proofs.Domain.{Domain, add-medial}
+use Rattle.ring.proofs.Domain.{Domain, add-zero, add-medial}
 
 -- the product of two series: with f = f0 + x f', f g = f0 g + x (f' g)
 abbrev pub conv : {K : Type 0} → (K → K → K) → (K → K → K) → (ℕ → K) → (ℕ → K) → ℕ → K
@@ -159,3 +159,10 @@ bits = record {
 pub laws : (n : ℕ) → Domain (R n) (nought n) (plus n) (times n)
 laws zero = bits
 laws (suc n) = series (laws n)
+
+-- a series with one coefficient only, times another
+pub constant-times : (n : ℕ) (f g : ℕ → R n) → ((j : ℕ) → f (suc j) ≡ nought n) → (k : ℕ) → times (suc n) f g k ≡ times n (f 0) (g k)
+constant-times n f g z zero = refl
+constant-times n f g z (suc k) =
+    ap (plus n (times n (f 0) (g (suc k)))) (ap (λ (h : ℕ → R n). times (suc n) h g k) (fun-ext z) ∙ conv-zero (laws n) g k)
+    ∙ add-zero (laws n) (times n (f 0) (g (suc k)))

@@ -13,12 +13,13 @@ use lib.Dec.{eqb}
 use borrow.Author.Tests.{eq-eqb, ne-eqb}
 use Rattle.masks.specs.Bit.{bit}
 use Rattle.masks.proofs.Bits.{bit-and, bit-or, bit-xor}
-use Rattle.ring.specs.Same.{one-if, exponent}
+use Rattle.ring.specs.Same.{one-if}
+use Rattle.ring.specs.Lone.{exponent}
 use Rattle.ring.specs.Ends.{first, last, varying, uneven, imbalance, Four}
 use Rattle.ring.proofs.Domain.{product-nonzero}
 use Rattle.ring.proofs.Series.{R, nought, times, laws}
 use Rattle.ring.proofs.Value.{join, value, value-none, Equal}
-use Rattle.ring.proofs.Bridge.{scale, powers-add}
+use Rattle.ring.proofs.Powers.{scale, powers-add, join-power}
 use Rattle.ring.proofs.Runs.{AllBits, lacking-of-all, holding-of-all, constant, run-of-constant, run-nonzero}
 
 -- ---- one constant variable
@@ -35,8 +36,8 @@ value-of-constant k false l h =
 product-of-constants : (k : ℕ) (p q : Bool) (a d : List ℕ) → AllBits k p a → AllBits k q d → (i : ℕ)
     → times (suc k) (value (suc k) a) (value (suc k) d) i ≡ scale k (eqb (one-if p + one-if q) i) (times k (value k a) (value k d))
 product-of-constants k p q a d ha hd i =
-    ap₂ (λ (f g : R (suc k)). times (suc k) f g i) (value-of-constant k p a ha) (value-of-constant k q d hd)
-    ∙ powers-add k (value k a) (value k d) p q i
+    ap₂ (λ (f g : R (suc k)). times (suc k) f g i) (value-of-constant k p a ha ∙ join-power k p (value k a)) (value-of-constant k q d hd ∙ join-power k q (value k d))
+    ∙ powers-add k (one-if p) (one-if q) (value k a) (value k d) i
 
 module _ (k : ℕ) (p q r s : Bool) (a d b c : List ℕ) (ha : AllBits k p a) (hd : AllBits k q d) (hb : AllBits k r b) (hc : AllBits k s c) where
   -- the variable stands equally often on either side: nothing is lost without it

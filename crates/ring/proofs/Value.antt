@@ -1,5 +1,5 @@
--- The value of a list of terms at k variables: a series with exponents 0 and 1, read variable by variable from the highest (FACTS
--- 5.2). Only the bits below k are read. Products are equal exactly if three equations of halves hold (FACTS 5.3).
+-- The value of a list of terms at k variables: a series with exponents 0 and 1, read variable by variable from the highest.
+-- Only the bits below k are read. Products are equal exactly if three equations of halves hold (RULES 3.3).
 use mathlib.Core.Path.{_≡_, refl, sym, ap, ap₂, _∙_, fun-ext}
 use mathlib.Core.Bool.{Bool, true, false, not, xor}
 use mathlib.Core.List.{List, [], _∷_}
@@ -76,7 +76,7 @@ join-add n x y u v = fun-ext at
     at (suc zero) = refl
     at (suc (suc i)) = sym (laws n .zero-add (nought n))
 
-join-nought : (k : ℕ) (x y : R k) → x ≡ nought k → y ≡ nought k → (i : ℕ) → join k x y i ≡ nought k
+pub join-nought : (k : ℕ) (x y : R k) → x ≡ nought k → y ≡ nought k → (i : ℕ) → join k x y i ≡ nought k
 join-nought k x y ex ey zero = ex
 join-nought k x y ex ey (suc zero) = ey
 join-nought k x y ex ey (suc (suc i)) = refl

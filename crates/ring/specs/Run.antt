@@ -1,5 +1,5 @@
--- Document 01: "In a list with variables, the terms that hold its highest variable are the tail of the list, and clearing that bit
--- leaves the tail ascending." A run is a list of which this holds at every variable below k, however often it is cut.
+-- The tail of a list (RULES 1.5): the terms that hold the highest variable end the list, and still ascend without that bit.
+-- A run is a list of which this holds at every variable below k, however often it is cut.
 use Prim.Native.Nat.{ℕ, zero, suc, _%_, _^_, _≤_}
 use mathlib.Core.Path.{_≡_}
 use mathlib.Core.Bool.{Bool, true, false}

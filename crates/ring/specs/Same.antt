@@ -1,10 +1,10 @@
--- Document 01, "Deciding AD = BC": products are ordinary ones, x times x is x squared. "For each assignment of exponents 0, 1 or 2
--- to the variables, count the pairs of terms giving it on either side; the answer is yes exactly if the two counts have equal
--- parity everywhere." The number n of variables is a parameter; only the bits below n are read.
+-- AD = BC with ordinary products, x times x being x squared (RULES 3.1 and 3.2): whatever exponents are fixed for the variables, the pairs
+-- of terms that have just these are an even number on both sides or an odd number on both. The number n of variables is a parameter; only
+-- the bits below n are read.
 use Prim.Native.Nat.{ℕ, zero, suc, _+_, _%_}
 use mathlib.Core.Path.{_≡_}
 use mathlib.Core.Bool.{Bool, true, false, _&&_}
-use mathlib.Core.List.{List, [], _∷_}
+use mathlib.Core.List.{List, [], _∷_, _++_, map}
 use lib.Dec.{eqb}
 use Rattle.masks.specs.Bit.{bit}
 
@@ -13,25 +13,33 @@ abbrev pub one-if : Bool → ℕ
 one-if true = 1
 one-if false = 0
 
--- the exponent of variable i in the product of the terms s and t: 0, 1 or 2
-abbrev pub exponent : ℕ → ℕ → ℕ → ℕ
-exponent s t i = one-if (bit s i) + one-if (bit t i)
+-- a monomial gives each variable its exponent; a polynomial over GF(2) is a sum of monomials, as a list
+abbrev pub Monomial : Type 0
+Monomial = ℕ → ℕ
 
--- whether the product of s and t gives the assignment e: its exponents are e's at all variables below n
-unfoldable pub gives : ℕ → (ℕ → ℕ) → ℕ → ℕ → Bool
-gives zero e s t = true
-gives (suc n) e s t = eqb (exponent s t n) (e n) && gives n e s t
+-- the polynomial of a list of terms: the variables of a term have exponent 1 in it, the others 0
+abbrev pub ordinary : List ℕ → List Monomial
+ordinary f = map (λ t i. one-if (bit t i)) f
 
--- how many terms of d give e in the product with s
-unfoldable pub count-with : ℕ → (ℕ → ℕ) → ℕ → List ℕ → ℕ
-count-with n e s [] = 0
-count-with n e s (t ∷ d) = one-if (gives n e s t) + count-with n e s d
+-- the product, pair by pair: for each monomial of g and each of h the one in which their exponents add
+unfoldable pub multiplied : List Monomial → List Monomial → List Monomial
+multiplied [] h = []
+multiplied (s ∷ g) h = map (λ t i. s i + t i) h ++ multiplied g h
 
--- how many pairs of a term of a and a term of d give e
-unfoldable pub count-pairs : ℕ → (ℕ → ℕ) → List ℕ → List ℕ → ℕ
-count-pairs n e [] d = 0
-count-pairs n e (s ∷ a) d = count-with n e s d + count-pairs n e a d
+-- whether m has the exponents e at all variables below n
+unfoldable pub is : ℕ → Monomial → Monomial → Bool
+is zero e m = true
+is (suc n) e m = eqb (m n) (e n) && is n e m
 
--- AD = BC in n variables: for each assignment the two counts have equal parity. (No pair gives an exponent above 2.)
+-- how many monomials of g have the exponents e
+unfoldable pub count : ℕ → Monomial → List Monomial → ℕ
+count n e [] = 0
+count n e (m ∷ g) = one-if (is n e m) + count n e g
+
+-- g and h are the same polynomial in n variables: for each assignment e of exponents the two counts have equal parity
+pub record Same (n : ℕ) (g h : List Monomial) : Type 0 where
+  pub parity : (e : Monomial) → count n e g % 2 ≡ count n e h % 2
+
+-- AD = BC in n variables: the two products are the same polynomial. (No pair of terms gives an exponent above 2.)
 pub record SameProducts (n : ℕ) (a d b c : List ℕ) : Type 0 where
-  pub parity : (e : ℕ → ℕ) → count-pairs n e a d % 2 ≡ count-pairs n e b c % 2
+  pub same : Same n (multiplied (ordinary a) (ordinary d)) (multiplied (ordinary b) (ordinary c))

@@ -1,5 +1,5 @@
 -- A list cut at a variable: its value is that of the terms without the variable plus the variable times the value of the derivative. So AD = BC says that
--- the coefficients of x and of y, multiplied, are those of 1 and of x y, multiplied (FACTS 4). Leans on ring's values.
+-- the coefficients of x and of y, multiplied, are those of 1 and of x y, multiplied. Leans on ring's values.
 use Prim.Native.Nat.{ℕ, _^_}
 use mathlib.Core.Path.{_≡_, refl, sym, ap, ap₂, _∙_}
 use mathlib.Core.Bool.{Bool, true, false}
@@ -20,7 +20,7 @@ use Rattle.rule.specs.Rule.{derivative, PapersSay}
 use Rattle.ring.proofs.Bridge.{equal-from-same}
 
 -- the value of a variable
-abbrev variable : (n : ℕ) → ℕ → R n
+abbrev pub variable : (n : ℕ) → ℕ → R n
 variable n i = value n (2 ^ i ∷ [])
 
 -- a term that holds i is i times the term with i cleared

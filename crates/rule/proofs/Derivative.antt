@@ -10,7 +10,7 @@ use lib.Bits.{bitAnd, bitOr}
 use Rattle.masks.specs.Bit.{bit, without}
 use Rattle.masks.proofs.Bits.{bit-and, bit-or, bit-without, bit-zero, bit-ext, bit-power-same, bit-power-other}
 use Rattle.masks.proofs.Reflect.{identity, _∩_, _∪_, _∖_, _≐_, _⊆_, apart, ∴_, _⇒_}
-use Rattle.masks.proofs.Sets.{power-subset, bit-of-subset}
+use Rattle.masks.proofs.Sets.{power-subset}
 use Rattle.masks.proofs.Order.{order-by-outside}
 use Rattle.polys.specs.List.{Mem, Asc, either}
 use Rattle.polys.specs.Poly.{vars, times}
@@ -30,14 +30,6 @@ power-apart i z h = bit-ext (bitAnd (2 ^ i) z) 0 (λ j. bit-and (2 ^ i) z j ∙ 
     at-bit : (j : ℕ) → Dec (i ≡ j) → bit (2 ^ i) j && bit z j ≡ false
     at-bit j (yes e) = ap (λ b. bit (2 ^ i) j && b) (ap (bit z) (sym e) ∙ h) ∙ and-false (bit (2 ^ i) j)
     at-bit j (no n) = ap (λ b. b && bit z j) (bit-power-other i j n)
-
--- a variable of f outside the variables of a list stands in none of its terms
-pub lacks-by-vars : (i : ℕ) (f : List ℕ) → bit (vars f) i ≡ false → Lacks i f
-lacks-by-vars i f h t m = go (bit t i) refl
-  where
-    go : (b : Bool) → bit t i ≡ b → bit t i ≡ false
-    go true e = absurd (true≢false (sym (bit-of-subset t (vars f) i (vars-hold f t m) e) ∙ h))
-    go false e = e
 
 -- ---- members
 

@@ -1,4 +1,4 @@
--- The papers' rule, both directions: y lies in another part of F than x exactly if AD = BC (document 01, "Deciding AD = BC"). For y = x both sides are
+-- The papers' rule, both directions: y lies in another part of F than x exactly if AD = BC (RULES 8.2). For y = x both sides are
 -- zero and the rule says nothing. Leans on Halves and Converse, and on Separated for what the parts have to do with it.
 use Prim.Native.Nat.{ℕ, _≤_}
 use mathlib.Core.Path.{_≡_, refl, sym, ap, _∙_}
@@ -29,7 +29,7 @@ use Rattle.rule.proofs.Separated.{separated-if-not-together, not-togeth
 use Rattle.rule.proofs.Converse.{separated-if-papers-say}
 
 -- every term of f lies in its variables, and so is below 2 ^ n
-small-if-below : (n : ℕ) (f : List ℕ) → Below n f → Small n f
+pub small-if-below : (n : ℕ) (f : List ℕ) → Below n f → Small n f
 small-if-below n f below t m =
     lt-of-le-of-lt (subset-le t (vars f) (vars-hold f t m)) (below-from-bits n (vars f) (λ i l. go i l (bit (vars f) i) refl))
   where

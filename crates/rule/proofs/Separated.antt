@@ -4,7 +4,6 @@ use Prim.Native.Nat.{ℕ}
 use mathlib.Core.Path.{_≡_, refl, sym, ap, ap₂, _∙_, subst}
 use mathlib.Core.Bool.{Bool, true, false, _&&_, _||_, true≢false, and-false}
 use mathlib.Core.List.{List, [], _∷_}
-use mathlib.Core.Logic.{_↔_}
 use lib.Bits.{bitAnd, and-comm}
 use Rattle.masks.specs.Bit.{bit}
 use Rattle.masks.proofs.Bits.{bit-and, bit-or, bit-zero}
@@ -81,7 +80,3 @@ module _ (x y : ℕ) where
           absurd (true≢false (sym (bit-of-subset (vars p) (s .0) y inside d) ∙ s .3))
       go true e false d = ap (λ b. bit (vars p) x && b) d ∙ and-false (bit (vars p) x)
       go false e b d = ap (λ a. a && bit (vars p) y) e
-
-  pub separated-exactly-if-not-together : (ps : List (List ℕ)) (f : List ℕ) → IsParts f ps → Occurs x f → Separated f x y ↔ (together x y ps ≡ false)
-  separated-exactly-if-not-together ps f parts occurs =
-      (not-together-if-separated ps f parts, separated-if-not-together ps f parts occurs)

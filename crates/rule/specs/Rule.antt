@@ -1,5 +1,5 @@
--- Document 01, "Deciding AD = BC": "Document 001 section 5 puts y into another part than x exactly if AD = BC, with A the derivative of F
--- by x, B = F at x = 0, C and D the derivatives of A and B by y." A variable is given by its number.
+-- The papers' rule for two variables x and y (RULES 8.1 and 8.2). Of the terms of F, A gets those with x and B the others; out of A and B those with y
+-- go to C and D; the variable that was looked for is taken out. The rule compares AD with BC. A variable is given by its number.
 use Prim.Native.Nat.{ℕ, _^_, _<_}
 use mathlib.Core.Path.{_≡_}
 use mathlib.Core.Bool.{Bool, true, false, _&&_, _||_}
@@ -9,11 +9,11 @@ use Rattle.polys.specs.Poly.{vars}
 use Rattle.ring.specs.Same.{SameProducts}
 use Rattle.ring.specs.Run.{lacking, holding}
 
--- "Derivative by x: the terms that hold x, with x cleared."
+-- the derivative by x: of the terms that hold x, what is left without it
 unfoldable pub derivative : ℕ → List ℕ → List ℕ
 derivative x f = map (without (2 ^ x)) (holding x f)
 
--- "F at x = 0: the terms that do not hold it."
+-- the value at x = 0: the terms without x
 abbrev pub atZero : ℕ → List ℕ → List ℕ
 atZero x f = lacking x f
 

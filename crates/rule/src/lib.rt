@@ -1,2 +1,2 @@
-// The papers' rule: document 001 section 5 puts y into another part than x exactly if AD = BC. The four lists are in specs/, the theorem
-// that the rule finds the parts that document 01 defines in proofs/. No code.
+// The papers' rule (RULES 8): y lies in another part than x exactly if AD = BC. The four lists are in specs/, the theorem that the
+// rule finds the parts of RULES 2.5 in proofs/. No code.

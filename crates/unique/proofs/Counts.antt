@@ -13,7 +13,7 @@ use Rattle.polys.specs.Poly.{vars, Irreducible}
 use Rattle.polys.specs.Parts.{product, Each, AllApart, IsParts}
 use Rattle.polys.proofs.Counts.{length-times}
 use Rattle.splitting.proofs.Products.{part-has-term, product-asc, apart-from-product, vars-product-cons}
-use Rattle.unique.specs.Choice.{lengthsMultiplied, lengthsAdded}
+use Rattle.unique.specs.Lengths.{lengthsMultiplied, lengthsAdded}
 
 product-length : (ps : List (List ℕ)) → Each Asc ps → Each Irreducible ps → AllApart ps → length (product ps) ≡ lengthsMultiplied ps
 unfolding product lengthsMultiplied

@@ -1,8 +1,7 @@
 -- Choices among parts: a choice is a list of marks, one for each part.
-use Prim.Native.Nat.{ℕ, _+_, _*_}
+use Prim.Native.Nat.{ℕ}
 use mathlib.Core.Bool.{Bool, true, false, not}
 use mathlib.Core.List.{List, [], _∷_, map}
-use lib.ListN.{length}
 
 -- the parts that are marked
 unfoldable pub chosen : List Bool → List (List ℕ) → List (List ℕ)
@@ -15,12 +14,3 @@ chosen (false ∷ c) (p ∷ ps) = chosen c ps
 unfoldable pub others : List Bool → List (List ℕ) → List (List ℕ)
 unfolding chosen
 others c ps = chosen (map not c) ps
-
--- the lengths of the parts multiplied, and added
-unfoldable pub lengthsMultiplied : List (List ℕ) → ℕ
-lengthsMultiplied [] = 1
-lengthsMultiplied (p ∷ ps) = length p * lengthsMultiplied ps
-
-unfoldable pub lengthsAdded : List (List ℕ) → ℕ
-lengthsAdded [] = 0
-lengthsAdded (p ∷ ps) = length p + lengthsAdded ps

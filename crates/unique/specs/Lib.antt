@@ -1,2 +1,3 @@
 pub mod Merged
 pub mod Choice
+pub mod Lengths
