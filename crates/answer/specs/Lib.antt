@@ -1,2 +1,3 @@
 pub mod Table
-pub mod Ending
+pub mod Ends
+pub mod Checked

@@ -1,4 +1,4 @@
--- Document 01, "What comes back": the table of codes, once. For each way a call can end it gives code, operand, place and count.
+-- The table of codes (RULES 5.1 and 5.2), once. For each way a call can end it gives code, operand, place and count.
 use Prim.Native.Nat.{ℕ}
 use Rattle.answer.specs.declared.Answer.{Answer}
 use Rattle.answer.specs.declared.Outcome.{Outcome}

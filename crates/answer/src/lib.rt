@@ -1,7 +1,9 @@
-// What comes back (document 01): a case for each way a call can end, and the four numbers that stand for it.
+// What comes back (RULES 5.1): a case for each way a call can end, and the four numbers that stand for it.
 // The table of codes is specs/Table.antt; every promise of a call goes through it.
+ghost use Prim.Native.Nat.{_<_};
 ghost use mathlib.Core.Path.{_≡_};
-ghost use Rattle.answer.specs.Table.{numbersOf};
+ghost use lib.Dec.{ltb};
+ghost use Rattle.answer.specs.Table.{numbersOf, refused};
 
 // The four numbers of every answer.
 #[repr(C)]
@@ -44,6 +46,19 @@ pub enum Outcome {
     Pad,
 }
 
+// The numbers of a refusal.
+fn refusal(code: u64, operand: u64, place: u64) -> Answer
+    ensures { λ r. ⌜ r ≡ refused code operand place ⌝ }
+{
+    Answer {
+        code,
+        operand,
+        place,
+        count: 0,
+    }
+}
+
+// The four numbers of an outcome.
 pub fn numbers(outcome: Outcome) -> Answer
     ensures { λ r. ⌜ r ≡ numbersOf outcome ⌝ }
 {
@@ -54,83 +69,27 @@ pub fn numbers(outcome: Outcome) -> Answer
             place: 0,
             count,
         },
-        Outcome::Zero => Answer {
-            code: 1,
-            operand: 1,
-            place: 0,
-            count: 0,
-        },
-        Outcome::TooMany { operand } => Answer {
-            code: 2,
-            operand,
-            place: 0,
-            count: 0,
-        },
-        Outcome::Order { operand, place } => Answer {
-            code: 3,
-            operand,
-            place,
-            count: 0,
-        },
-        Outcome::Shared => Answer {
-            code: 4,
-            operand: 0,
-            place: 0,
-            count: 0,
-        },
-        Outcome::TooLarge => Answer {
-            code: 5,
-            operand: 0,
-            place: 0,
-            count: 0,
-        },
-        Outcome::Room { operand } => Answer {
-            code: 6,
-            operand,
-            place: 0,
-            count: 0,
-        },
-        Outcome::Work => Answer {
-            code: 7,
-            operand: 1,
-            place: 0,
-            count: 0,
-        },
-        Outcome::Form => Answer {
-            code: 8,
-            operand: 1,
-            place: 0,
-            count: 0,
-        },
-        Outcome::Wide => Answer {
-            code: 9,
-            operand: 1,
-            place: 0,
-            count: 0,
-        },
-        Outcome::Short => Answer {
-            code: 10,
-            operand: 1,
-            place: 0,
-            count: 0,
-        },
-        Outcome::Misfit => Answer {
-            code: 11,
-            operand: 1,
-            place: 0,
-            count: 0,
-        },
-        Outcome::Extra => Answer {
-            code: 12,
-            operand: 1,
-            place: 0,
-            count: 0,
-        },
-        Outcome::Pad => Answer {
-            code: 13,
-            operand: 1,
-            place: 0,
-            count: 0,
-        },
+        Outcome::Zero => refusal(1, 1, 0),
+        Outcome::TooMany { operand } => refusal(2, operand, 0),
+        Outcome::Order { operand, place } => refusal(3, operand, place),
+        Outcome::Shared => refusal(4, 0, 0),
+        Outcome::TooLarge => refusal(5, 0, 0),
+        Outcome::Room { operand } => refusal(6, operand, 0),
+        Outcome::Work => refusal(7, 1, 0),
+        Outcome::Form => refusal(8, 1, 0),
+        Outcome::Wide => refusal(9, 1, 0),
+        Outcome::Short => refusal(10, 1, 0),
+        Outcome::Misfit => refusal(11, 1, 0),
+        Outcome::Extra => refusal(12, 1, 0),
+        Outcome::Pad => refusal(13, 1, 0),
     }
+}
+
+// Whether an outcome refuses.
+pub fn refuses(outcome: Outcome) -> bool
+    ensures { λ r. ⌜ r ≡ ltb 0 (numbersOf outcome .code) ⌝ }
+{
+    let said = numbers(outcome);
+    let code = said.code;
+    0 < code
 }

@@ -1,13 +1,12 @@
-// The calls of document 01 for programs in C and Rust: thin over the proved library, each slice a pointer and a length, the four
-// numbers of the answer by value. No call asks anything of its caller; each refuses instead.
+// The calls for programs in C and Rust (RULES 5.6): thin over the proved library, each slice a pointer and a length, the four
+// numbers of the answer by value. Each promises what the call of the library promises, word for word. No call asks anything of
+// its caller; each refuses instead.
 use answer::Answer;
 use terms::TermList;
-ghost use mathlib.Core.Path.{_≡_};
-ghost use Rattle.answer.specs.Ending.{ends};
-ghost use Rattle.block.specs.Calls.{reading, writing};
-ghost use Rattle.product.specs.Multiply.{multiplying};
+ghost use Rattle.block.specs.Calls.{ReadEnds, WriteEnds};
+ghost use Rattle.parts.specs.Split.{SplitEnds};
+ghost use Rattle.product.specs.Multiply.{MultiplyEnds};
 ghost use Rattle.same.specs.Same.{SameEnds};
-ghost use Rattle.apfelruder.specs.Promises.{Answers, SplitAnswers};
 
 // The irreducible parts of a term list.
 #[no_mangle]
@@ -20,7 +19,7 @@ pub extern "C" fn apfelruder_split(
     ensures { λ r. do
       most ← ⟦TermList::MAX_TERMS⟧ .entry
       vars ← ⟦TermList::MAX_VARS⟧ .entry
-      ⌜ SplitAnswers most vars (now (terms .entry))
+      ⌜ SplitEnds most vars (now (terms .entry))
           (record { terms = now («part_terms» .entry); lengths = now («part_lengths» .entry); work = now (work .entry) })
           r
           (record { terms = now («part_terms» .exit); lengths = now («part_lengths» .exit); work = now (work .exit) }) ⌝ }
@@ -33,7 +32,7 @@ pub extern "C" fn apfelruder_split(
 pub extern "C" fn apfelruder_multiply(a: &[u64], b: &[u64], out: &mut [u64]) -> Answer
     ensures { λ r. do
       most ← ⟦TermList::MAX_TERMS⟧ .entry
-      ⌜ Answers (λ o. ends o (now (out .exit)) ≡ multiplying most (now (a .entry)) (now (b .entry)) (now (out .entry))) r ⌝ }
+      ⌜ MultiplyEnds most (now (a .entry)) (now (b .entry)) (now (out .entry)) r (now (out .exit)) ⌝ }
 {
     answer::numbers(product::multiply(a, b, out))
 }
@@ -44,7 +43,7 @@ pub extern "C" fn apfelruder_same_products(a: &[u64], d: &[u64], b: &[u64], c: &
     ensures { λ r. do
       most ← ⟦TermList::MAX_TERMS⟧ .entry
       vars ← ⟦TermList::MAX_VARS⟧ .entry
-      ⌜ Answers (λ o. SameEnds most vars (now (a .entry)) (now (d .entry)) (now (b .entry)) (now (c .entry)) o) r ⌝ }
+      ⌜ SameEnds most vars (now (a .entry)) (now (d .entry)) (now (b .entry)) (now (c .entry)) r ⌝ }
 {
     answer::numbers(same::same_products(a, d, b, c))
 }
@@ -55,7 +54,7 @@ pub extern "C" fn apfelruder_read(bytes: &[u8], out: &mut [u64]) -> Answer
     ensures { λ r. do
       most ← ⟦TermList::MAX_TERMS⟧ .entry
       vars ← ⟦TermList::MAX_VARS⟧ .entry
-      ⌜ Answers (λ o. ends o (now (out .exit)) ≡ reading most vars (now (bytes .entry)) (now (out .entry))) r ⌝ }
+      ⌜ ReadEnds most vars (now (bytes .entry)) (now (out .entry)) r (now (out .exit)) ⌝ }
 {
     answer::numbers(block::read(bytes, out))
 }
@@ -65,7 +64,7 @@ pub extern "C" fn apfelruder_read(bytes: &[u8], out: &mut [u64]) -> Answer
 pub extern "C" fn apfelruder_write(terms: &[u64], out: &mut [u8]) -> Answer
     ensures { λ r. do
       most ← ⟦TermList::MAX_TERMS⟧ .entry
-      ⌜ Answers (λ o. ends o (now (out .exit)) ≡ writing most (now (terms .entry)) (now (out .entry))) r ⌝ }
+      ⌜ WriteEnds most (now (terms .entry)) (now (out .entry)) r (now (out .exit)) ⌝ }
 {
     answer::numbers(block::write(terms, out))
 }

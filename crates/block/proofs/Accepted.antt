@@ -1,151 +1,98 @@
--- What is known of a block that read accepted, and of a list that write accepted. Assumes nothing.
-use mathlib.Core.Path.{_≡_, refl, sym, ap, _∙_, subst}
-use mathlib.Core.List.{List, _++_}
-use Prim.Native.Nat.{ℕ, _≤_, _<_}
-use native.Mathlib.Nat.{le-antisymm}
+-- What is known where read or write accepted: the checks passed, the answer counts what was written, and a block is accepted exactly if it
+-- holds the fields of an ascending list. Assumes nothing.
+use mathlib.Core.Path.{_≡_, refl, sym, ap, ap₂, _∙_, subst}
+use mathlib.Core.List.{List}
+use Prim.Native.Nat.{ℕ, _≤_}
 use native.Mathlib.Omega.{arith}
-use lib.ListN.{length, drop}
-use mathlib.Core.Logic.{_⊎_, inl, inr}
-use Rattle.answer.specs.declared.Outcome.{Outcome}
-use Rattle.answer.specs.declared.Outcome.the-variants.{Done, TooMany, Order, Room, Form, Wide, Short, Misfit, Extra, Pad}
-use Rattle.answer.specs.Table.{numbersOf}
+use lib.ListN.{length, take, drop}
+use lib.Seq.{take-at}
+use Rattle.answer.specs.declared.Answer.{Answer}
+use Rattle.answer.specs.Table.{accepted}
+use Rattle.answer.specs.Ends.{Check, Ends, Writes, over}
+use Rattle.answer.specs.Checked.{Passed, coded}
+use Rattle.answer.proofs.Ends.{passed-accepts, accepted-passed}
 use Rattle.polys.specs.List.{Asc}
-use Rattle.polys.specs.Poly.{vars}
-use Rattle.terms.specs.Order.{unordered}
 use Rattle.terms.specs.Width.{widthOf}
-use Rattle.terms.proofs.Order.{in-order, unordered-le}
-use Rattle.terms.proofs.Width.{width-le}
-use Rattle.digits.proofs.Bits.{length-fields, fields-below}
-use Rattle.block.specs.Format.{size, formIn, nIn, tIn, termsIn, spareIn, sizeOf, blockOf}
-use Rattle.answer.specs.Ending.{Ending, ends}
-use Rattle.block.specs.Calls.{readingBody, reading, writing}
-use Rattle.block.proofs.Variables.{vars-below, lt-or-le, ne-or-eq}
+use Rattle.digits.proofs.Bits.{length-fields}
+use Rattle.block.specs.Format.{size, nIn, tIn, termsIn, spareIn, blockOf}
+use Rattle.block.specs.Calls.{readChecks, ReadEnds, writeChecks, WriteEnds}
 use Rattle.block.proofs.Fields.{Holds}
-use Rattle.block.proofs.Reading.{body-short, body-extra, body-room, body-order, body-misfit, body-pad, body-done, head-short, head-form, head-wide, head-many, head-body}
-use Rattle.block.proofs.Writing.{write-many, write-order, write-room, write-done}
+use Rattle.block.proofs.Reading.{Readable, readable}
+use Rattle.block.proofs.Writing.{Writable, writable}
 
--- accepted and refused exclude each other: code 0 is no refusal's
-clash : (refusal : Outcome) {old new : List ℕ} {count : ℕ} {ending : Ending} → 0 < numbersOf refusal .code
-    → ends (Done count) new ≡ ending → ends refusal old ≡ ending → ⊥
-clash refusal {old} {new} {count} {ending} h e f = omega (arith, ap (λ (k : Ending). numbersOf (k .0) .code) (e ∙ sym f))
+-- a call that writes one list, and whose checks pass, counts it and writes it,
+pub passed-writes : (cs : List Check) (p old : List ℕ) (answer : Answer) (new : List ℕ) → Passed cs → Ends cs old (Writes p old) answer new
+    → (answer ≡ accepted (length p)) × (new ≡ over p old)
+passed-writes cs p old answer new passed e =
+    let a = passed-accepts old (Writes p old) cs answer new passed e in (a .1 ∙ ap accepted (a .2 .0), a .2 .1)
 
-unless : {A B : Type 0} → A ⊎ B → (A → ⊥) → B
-unless (inl a) h = absurd (h a)
-unless (inr b) h = b
+-- so as much of the buffer as the answer counts is that list
+counted : (cs : List Check) (p old : List ℕ) (answer : Answer) (new : List ℕ) → Passed cs → Ends cs old (Writes p old) answer new
+    → take (answer .count) new ≡ p
+counted cs p old answer new passed e =
+    let w = passed-writes cs p old answer new passed e in
+    ap₂ take (ap (λ (a : Answer). a .count) (w .0)) (w .1) ∙ take-at p (drop (length p) old) (length p) refl
 
--- what a list says that write accepted
-pub record WriteAccepts (maxTerms : ℕ) (terms old : List ℕ) (count : ℕ) (new : List ℕ) : Type 0 where
-  pub few : length terms ≤ maxTerms
-  pub ascend : Asc terms
-  pub room : sizeOf terms ≤ length old
-  pub counted : count ≡ sizeOf terms
-  pub written : new ≡ blockOf terms ++ drop (sizeOf terms) old
+-- where write accepted
+module _ (maxTerms : ℕ) (terms old : List ℕ) (answer : Answer) (new : List ℕ) (e : WriteEnds maxTerms terms old answer new) (z : answer .code ≡ 0) where
+  write-passed : Passed (writeChecks maxTerms terms (length old))
+  unfolding coded
+  write-passed = accepted-passed old (Writes (blockOf terms) old) (writeChecks maxTerms terms (length old)) answer new refl e z
 
-pub write-accepts : (maxTerms : ℕ) (terms old : List ℕ) (count : ℕ) (new : List ℕ) → ends (Done count) new ≡ writing maxTerms terms old
-    → WriteAccepts maxTerms terms old count new
-write-accepts maxTerms terms old count new e =
+  pub write-accepts : Writable maxTerms terms (length old)
+  write-accepts = writable maxTerms terms (length old) write-passed
+
+  pub block-left : take (answer .count) new ≡ blockOf terms
+  block-left = counted (writeChecks maxTerms terms (length old)) (blockOf terms) old answer new write-passed e
+
+-- the terms that a block says it has
+abbrev pub said : List ℕ → List ℕ
+said block = termsIn block (nIn block) (tIn block)
+
+-- where read accepted
+module _ (maxTerms maxVars : ℕ) (block old : List ℕ) (answer : Answer) (new : List ℕ) (e : ReadEnds maxTerms maxVars block old answer new) (z : answer .code ≡ 0) where
+  read-passed : Passed (readChecks maxTerms maxVars block (length old))
+  unfolding coded
+  read-passed = accepted-passed old (Writes (said block) old) (readChecks maxTerms maxVars block (length old)) answer new refl e z
+
+  pub read-accepts : Readable maxTerms maxVars block (length old)
+  read-accepts = readable maxTerms maxVars block (length old) read-passed
+
+  pub terms-read : take (answer .count) new ≡ said block
+  terms-read = counted (readChecks maxTerms maxVars block (length old)) (said block) old answer new read-passed e
+
+-- a block that read accepts holds the fields of its terms
+pub holds-if-readable : (maxTerms maxVars : ℕ) (block : List ℕ) (room : ℕ) → Readable maxTerms maxVars block room → Holds block (widthOf (said block)) (said block)
+holds-if-readable maxTerms maxVars block room r =
+    subst (λ (k : ℕ). Holds block k (said block)) (sym (r .own))
     record {
-      few = few;
-      ascend = in-order terms (le-antisymm (unordered-le terms) ordered);
-      room = room;
-      counted = ap (λ (k : Ending). numbersOf (k .0) .count) done;
-      written = ap (λ (k : Ending). k .1) done;
+      long = r .whole ∙ ap (size (nIn block)) (sym counts);
+      form = r .form;
+      vars = refl;
+      count = sym counts;
+      inside = ap (termsIn block (nIn block)) counts;
+      rest = ap (spareIn block (nIn block)) counts ∙ r .rest;
     }
   where
-    few : length terms ≤ maxTerms
-    few = unless (lt-or-le maxTerms (length terms)) (λ h. clash (TooMany 1) (omega arith) e (write-many maxTerms terms old h))
+    counts : length (said block) ≡ tIn block
+    counts = length-fields block 24 (nIn block) (tIn block)
 
-    ordered : length terms ≤ unordered terms
-    ordered = unless (lt-or-le (unordered terms) (length terms)) (λ h. clash (Order 1 (unordered terms)) (omega arith) e (write-order maxTerms terms old few h refl))
+-- one that holds the fields of a list says its terms,
+pub said-if-holds : (block terms : List ℕ) (n : ℕ) → Holds block n terms → said block ≡ terms
+said-if-holds block terms n h = ap₂ (termsIn block) (h .vars) (h .count) ∙ h .inside
 
-    room : sizeOf terms ≤ length old
-    room = unless (lt-or-le (length old) (sizeOf terms)) (λ h. clash (Room 1) (omega arith) e (write-room maxTerms terms old few ordered h))
-
-    done : ends (Done count) new ≡ ends (Done (sizeOf terms)) (blockOf terms ++ drop (sizeOf terms) old)
-    done = e ∙ sym (write-done maxTerms terms old few ordered room refl refl)
-
--- what a block says that read accepted: it holds the fields of the terms that were read
-pub record ReadAccepts (maxTerms maxVars : ℕ) (block old : List ℕ) (count : ℕ) (new : List ℕ) : Type 0 where
-  pub terms : List ℕ
-  pub few : length terms ≤ maxTerms
-  pub ascend : Asc terms
-  pub narrow : widthOf terms ≤ maxVars
-  pub holds : Holds block (widthOf terms) terms
-  pub counted : count ≡ length terms
-  pub written : new ≡ terms ++ drop (length terms) old
-
-pub read-accepts : (maxTerms maxVars : ℕ) (block old : List ℕ) (count : ℕ) (new : List ℕ) → ends (Done count) new ≡ reading maxTerms maxVars block old
-    → ReadAccepts maxTerms maxVars block old count new
-read-accepts maxTerms maxVars block old count new e =
+-- and is accepted if they ascend and there is room
+pub readable-if-holds : (maxTerms maxVars : ℕ) (block terms : List ℕ) (room : ℕ) → length terms ≤ maxTerms → widthOf terms ≤ maxVars
+    → length terms ≤ room → Asc terms → Holds block (widthOf terms) terms → Readable maxTerms maxVars block room
+readable-if-holds maxTerms maxVars block terms room few narrow fits ascend h =
+    let same = said-if-holds block terms (widthOf terms) h in
     record {
-      terms = read;
-      few = subst (λ (k : ℕ). k ≤ maxTerms) (sym counts) few;
-      ascend = in-order read (omega (arith, ordered, counts, unordered-le read));
-      narrow = subst (λ (k : ℕ). k ≤ maxVars) own narrow;
-      holds =
-          subst (λ (k : ℕ). Holds block k read) own
-          record {
-            long = whole ∙ ap (size n) (sym counts);
-            form = form;
-            vars = refl;
-            count = sym counts;
-            inside = ap (termsIn block n) counts;
-            rest = ap (spareIn block n) counts ∙ omega (arith, rest);
-          };
-      counted = ap (λ (k : Ending). numbersOf (k .0) .count) done ∙ sym counts;
-      written = ap (λ (k : Ending). k .1) done ∙ ap (λ (k : ℕ). read ++ drop k old) (sym counts);
+      form = h .form;
+      narrow = omega (arith, h .vars);
+      few = omega (arith, h .count);
+      whole = h .long ∙ ap₂ size (sym (h .vars)) (sym (h .count));
+      fits = omega (arith, h .count);
+      ascend = subst Asc (sym same) ascend;
+      own = ap widthOf same ∙ sym (h .vars);
+      rest = ap₂ (spareIn block) (h .vars) (h .count) ∙ h .rest;
     }
-  where
-    n : ℕ
-    n = nIn block
-
-    t : ℕ
-    t = tIn block
-
-    read : List ℕ
-    read = termsIn block n t
-
-    counts : length read ≡ t
-    counts = length-fields block 24 n t
-
-    there : 3 ≤ length block
-    there = unless (lt-or-le (length block) 3) (λ h. clash Short (omega arith) e (head-short maxTerms maxVars block old h))
-
-    form : formIn block ≡ 1
-    form = unless (ne-or-eq (formIn block) 1) (λ h. clash Form (omega arith) e (head-form maxTerms maxVars block old there h))
-
-    narrow : n ≤ maxVars
-    narrow = unless (lt-or-le maxVars n) (λ h. clash Wide (omega arith) e (head-wide maxTerms maxVars block old there form h))
-
-    few : t ≤ maxTerms
-    few = unless (lt-or-le maxTerms t) (λ h. clash (TooMany 1) (omega arith) e (head-many maxTerms maxVars block old there form narrow h))
-
-    body : ends (Done count) new ≡ readingBody block n t old
-    body = e ∙ sym (head-body maxTerms maxVars block old there form narrow few)
-
-    long : size n t ≤ length block
-    long = unless (lt-or-le (length block) (size n t)) (λ h. clash Short (omega arith) body (body-short block n t old h))
-
-    no-more : length block ≤ size n t
-    no-more = unless (lt-or-le (size n t) (length block)) (λ h. clash Extra (omega arith) body (body-extra block n t old h))
-
-    whole : length block ≡ size n t
-    whole = le-antisymm no-more long
-
-    room : t ≤ length old
-    room = unless (lt-or-le (length old) t) (λ h. clash (Room 1) (omega arith) body (body-room block n t old whole h))
-
-    ordered : t ≤ unordered read
-    ordered = unless (lt-or-le (unordered read) t) (λ h. clash (Order 1 (unordered read)) (omega arith) body (body-order block n t old whole room h refl))
-
-    fit : n ≤ widthOf read
-    fit = unless (lt-or-le (widthOf read) n) (λ h. clash Misfit (omega arith) body (body-misfit block n t old whole room ordered h))
-
-    rest : spareIn block n t ≤ 0
-    rest = unless (lt-or-le 0 (spareIn block n t)) (λ h. clash Pad (omega arith) body (body-pad block n t old whole room ordered fit h))
-
-    done : ends (Done count) new ≡ ends (Done t) (read ++ drop t old)
-    done = body ∙ sym (body-done block n t old whole room ordered fit rest refl refl)
-
-    own : n ≡ widthOf read
-    own = le-antisymm fit (width-le n (vars read) (vars-below n read (fields-below block 24 n t)))

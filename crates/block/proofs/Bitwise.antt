@@ -3,26 +3,26 @@ use mathlib.Core.Path.{_≡_, sym, ap, ap₂, _∙_, subst}
 use mathlib.Core.Bool.{Bool}
 use mathlib.Core.List.{List, _++_, append-assoc}
 use Prim.Native.Nat.{ℕ, _+_, _*_, _^_, _<_}
-use native.Mathlib.Nat.{lt-of-le-of-lt}
 use native.Mathlib.Omega.{arith}
 use lib.ListN.{length, take}
 use lib.Pow.{pow-pos}
 use Rattle.terms.specs.Width.{widthOf}
-use Rattle.answer.specs.declared.Outcome.the-variants.{Done}
+use Rattle.answer.specs.declared.Answer.{Answer}
 use Rattle.digits.specs.Number.{num, Below}
 use Rattle.digits.specs.Bitwise.{bitsOf, row}
 use Rattle.digits.proofs.Number.{num-below}
+use Rattle.digits.proofs.Bits.{length-fields}
 use Rattle.digits.proofs.Bitwise.{bits-joined, row-of-number, bits-of-zero}
-use Rattle.block.specs.Format.{size, spare, behind, headerOf, bodyOf, blockOf}
+use Rattle.block.specs.Format.{size, spare, nIn, tIn, behind, headerOf, bodyOf, blockOf}
 use Rattle.block.specs.Bitwise.{blockBits}
-use Rattle.answer.specs.Ending.{ends}
-use Rattle.block.specs.Calls.{reading}
+use Rattle.block.specs.Calls.{ReadEnds}
 use Rattle.block.proofs.Variables.{terms-fit}
 use Rattle.block.proofs.Fields.{block-bytes, length-block, number-of-block}
-use Rattle.block.proofs.Accepted.{ReadAccepts, read-accepts}
-use Rattle.block.proofs.RoundTrip.{terms-read, accepted-block}
+use Rattle.block.proofs.Reading.{Readable}
+use Rattle.block.proofs.Accepted.{said, read-accepts, terms-read}
+use Rattle.block.proofs.RoundTrip.{accepted-block}
 
--- the bytes of the block, bit by bit, are document 01's fields
+-- the bytes of the block, bit by bit, are the fields of RULES 4.1
 pub block-bit-by-bit : (terms : List ℕ) → widthOf terms < 2 ^ 7 → length terms < 2 ^ 13 → row 8 (blockOf terms) ≡ blockBits terms
 block-bit-by-bit terms small few =
     row-of-number 8 (blockOf terms) (block-bytes terms)
@@ -44,16 +44,16 @@ block-bit-by-bit terms small few =
     all = omega arith
 
 -- every bit of an accepted block is determined by the terms that were read
-pub accepted-bit-by-bit : (maxTerms maxVars : ℕ) (block old : List ℕ) (count : ℕ) (new : List ℕ) → maxTerms < 2 ^ 13 → maxVars < 2 ^ 7 → Below 8 block
-    → ends (Done count) new ≡ reading maxTerms maxVars block old → row 8 block ≡ blockBits (take count new)
-accepted-bit-by-bit maxTerms maxVars block old count new few narrow bytes e =
-    ap (row 8) (accepted-block maxTerms maxVars block old count new bytes e)
-    ∙ block-bit-by-bit (take count new)
-    (subst (λ (l : List ℕ). widthOf l < 2 ^ 7) (sym terms) (lt-of-le-of-lt (ok .narrow) narrow))
-    (subst (λ (l : List ℕ). length l < 2 ^ 13) (sym terms) (lt-of-le-of-lt (ok .few) few))
+pub accepted-bit-by-bit : (maxTerms maxVars : ℕ) (block old : List ℕ) (got : Answer) (new : List ℕ) → maxTerms < 2 ^ 13 → maxVars < 2 ^ 7 → Below 8 block
+    → ReadEnds maxTerms maxVars block old got new → got .code ≡ 0 → row 8 block ≡ blockBits (take (got .count) new)
+accepted-bit-by-bit maxTerms maxVars block old got new few narrow bytes e z =
+    ap (row 8) (accepted-block maxTerms maxVars block old got new bytes e z)
+    ∙ block-bit-by-bit (take (got .count) new)
+    (subst (λ (l : List ℕ). widthOf l < 2 ^ 7) (sym terms) (omega (arith, ok .own, ok .narrow)))
+    (subst (λ (l : List ℕ). length l < 2 ^ 13) (sym terms) (omega (arith, length-fields block 24 (nIn block) (tIn block), ok .few)))
   where
-    ok : ReadAccepts maxTerms maxVars block old count new
-    ok = read-accepts maxTerms maxVars block old count new e
+    ok : Readable maxTerms maxVars block (length old)
+    ok = read-accepts maxTerms maxVars block old got new e z
 
-    terms : take count new ≡ ok .terms
-    terms = terms-read maxTerms maxVars block old count new ok
+    terms : take (got .count) new ≡ said block
+    terms = terms-read maxTerms maxVars block old got new e z

@@ -1,17 +1,18 @@
--- Document 01's block examples, as what the contracts of read and write come to. Assumes nothing.
-use mathlib.Core.Path.{_≡_, refl}
+-- The blocks of RULES 7.4 and 4.4, as what the promises of read and write come to. Assumes nothing.
+use mathlib.Core.Path.{_≡_, refl, ap, _∙_}
 use mathlib.Core.List.{List, [], _∷_}
 use Prim.Native.Nat.{ℕ}
-use Rattle.answer.specs.declared.Outcome.the-variants.{Done, Order, Form, Short, Misfit, Extra, Pad}
+use Rattle.answer.specs.declared.Answer.{Answer}
+use Rattle.answer.specs.Table.{accepted, refused}
+use Rattle.answer.specs.Ends.{Ends}
 use Rattle.polys.specs.Poly.{vars}
 use Rattle.terms.specs.Order.{unordered, rising}
 use Rattle.terms.specs.Width.{width, halvings}
 use Rattle.digits.specs.Number.{num, digits, bits, fields}
 use Rattle.block.specs.Format.{blockOf}
-use Rattle.answer.specs.Ending.{Ending, ends}
-use Rattle.block.specs.Calls.{reading}
+use Rattle.block.specs.Calls.{ReadEnds}
 
--- "zero is `10 00 00`, one is `10 00 01`", and the block of "The printed split"
+-- the blocks of zero, of one and of `{1,2,5,6}`
 pub zero-block : blockOf [] ≡ 0x10 ∷ 0x00 ∷ 0x00 ∷ []
 unfolding blockOf digits num width halvings vars
 zero-block = refl
@@ -24,24 +25,33 @@ pub printed-block : blockOf (1 ∷ 2 ∷ 5 ∷ 6 ∷ []) ≡ 0x10 ∷ 0x60 ∷ 0
 unfolding blockOf digits num width halvings vars
 printed-block = refl
 
--- a block read into room for five terms that held 9 before
-abbrev pub example : List ℕ → Ending
-example block = reading 1024 64 block (9 ∷ 9 ∷ 9 ∷ 9 ∷ 9 ∷ [])
-
+-- what a lent room of five words holds before
 abbrev pub untouched : List ℕ
 untouched = 9 ∷ 9 ∷ 9 ∷ 9 ∷ 9 ∷ []
 
--- "`10 60 04 2A E1` refused 13; `10 60 04 2A` refused 10; `10 60 04 2A E0 00` refused 12; `20 00 01` refused 8; `10 00 02` refused 3,
--- place 1; `10 20 01 00` refused 11"
+-- every ending of read with these bytes and that room has this answer and leaves this
+abbrev pub Gives : List ℕ → Answer → List ℕ → Type 0
+Gives block answer left = (a : Answer) (new : List ℕ) → ReadEnds 1024 64 block untouched a new → (a ≡ answer) × (new ≡ left)
+
+-- the block of `{1,2,5,6}` is read; the others are refused
 pub record AsListed : Type 0 where
-  pub printed : example (0x10 ∷ 0x60 ∷ 0x04 ∷ 0x2a ∷ 0xe0 ∷ []) ≡ ends (Done 4) (1 ∷ 2 ∷ 5 ∷ 6 ∷ 9 ∷ [])
-  pub pad : example (0x10 ∷ 0x60 ∷ 0x04 ∷ 0x2a ∷ 0xe1 ∷ []) ≡ ends Pad untouched
-  pub short : example (0x10 ∷ 0x60 ∷ 0x04 ∷ 0x2a ∷ []) ≡ ends Short untouched
-  pub extra : example (0x10 ∷ 0x60 ∷ 0x04 ∷ 0x2a ∷ 0xe0 ∷ 0x00 ∷ []) ≡ ends Extra untouched
-  pub form : example (0x20 ∷ 0x00 ∷ 0x01 ∷ []) ≡ ends Form untouched
-  pub order : example (0x10 ∷ 0x00 ∷ 0x02 ∷ []) ≡ ends (Order 1 1) untouched
-  pub misfit : example (0x10 ∷ 0x20 ∷ 0x01 ∷ 0x00 ∷ []) ≡ ends Misfit untouched
+  pub printed : Gives (0x10 ∷ 0x60 ∷ 0x04 ∷ 0x2a ∷ 0xe0 ∷ []) (accepted 4) (1 ∷ 2 ∷ 5 ∷ 6 ∷ 9 ∷ [])
+  pub pad : Gives (0x10 ∷ 0x60 ∷ 0x04 ∷ 0x2a ∷ 0xe1 ∷ []) (refused 13 1 0) untouched
+  pub short : Gives (0x10 ∷ 0x60 ∷ 0x04 ∷ 0x2a ∷ []) (refused 10 1 0) untouched
+  pub extra : Gives (0x10 ∷ 0x60 ∷ 0x04 ∷ 0x2a ∷ 0xe0 ∷ 0x00 ∷ []) (refused 12 1 0) untouched
+  pub form : Gives (0x20 ∷ 0x00 ∷ 0x01 ∷ []) (refused 8 1 0) untouched
+  pub order : Gives (0x10 ∷ 0x00 ∷ 0x02 ∷ []) (refused 3 1 1) untouched
+  pub misfit : Gives (0x10 ∷ 0x20 ∷ 0x01 ∷ 0x00 ∷ []) (refused 11 1 0) untouched
 
 pub as-listed : AsListed
-unfolding bits num fields unordered rising width halvings vars
-as-listed = record { printed = refl; pad = refl; short = refl; extra = refl; form = refl; order = refl; misfit = refl }
+unfolding Ends bits num fields unordered rising width halvings vars
+as-listed =
+    record {
+      printed = λ a new e. (e .1 ∙ ap accepted (e .2 .0), e .2 .1);
+      pad = λ a new e. e;
+      short = λ a new e. e;
+      extra = λ a new e. e;
+      form = λ a new e. e;
+      order = λ a new e. e;
+      misfit = λ a new e. e;
+    }

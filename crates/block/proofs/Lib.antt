@@ -1,9 +1,9 @@
-pub mod Reading
-pub mod Terms
 pub mod Variables
-pub mod Packing
-pub mod Writing
 pub mod Fields
+pub mod Terms
+pub mod Packing
+pub mod Reading
+pub mod Writing
 pub mod Accepted
 pub mod RoundTrip
 pub mod Bitwise

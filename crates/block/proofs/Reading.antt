@@ -1,101 +1,116 @@
--- How reading a block's body ends, case by case, in the order of the checks. Assumes nothing.
-use mathlib.Core.Path.{_≡_, sym, ap, ap₂, _∙_}
+-- What read's checks (specs/Calls.antt) tell where they pass, when they pass, and that the terms are then written. Leans on the laws of
+-- order and of fields. Assumes nothing.
+use mathlib.Core.Path.{_≡_, sym, ap, _∙_, subst}
+use mathlib.Core.Bool.{false}
 use mathlib.Core.List.{List, _++_}
 use Prim.Native.Nat.{ℕ, _*_, _≤_, _<_, _^_}
-use native.Mathlib.Nat.{mul-le-mul, le-of-eq}
+use native.Mathlib.Nat.{mul-le-mul, le-antisymm, le-of-eq}
 use native.Mathlib.Omega.{arith}
-use mathlib.Core.Bool.{true, false}
-use lib.Dec.{ltb, eqb}
+use borrow.Author.Tests.{ltb-false, le-ltb}
+use lib.Dec.{ltb}
 use lib.ListN.{length, drop}
-use borrow.Author.Tests.{le-ltb, lt-ltb, eq-eqb, ne-eqb}
-use Rattle.answer.specs.declared.Outcome.{Outcome}
-use Rattle.answer.specs.declared.Outcome.the-variants.{Done, TooMany, Order, Room, Form, Wide, Short, Misfit, Extra, Pad}
+use Rattle.answer.specs.declared.Answer.{Answer}
+use Rattle.answer.specs.Ends.{Writes}
+use Rattle.answer.specs.Checked.{Passed, Checked}
+use Rattle.answer.proofs.Checking.{equal-if-passed, passed-if-equal}
+use Rattle.polys.specs.List.{Asc}
+use Rattle.polys.specs.Poly.{vars}
 use Rattle.terms.specs.Order.{unordered}
 use Rattle.terms.specs.Width.{widthOf}
+use Rattle.terms.proofs.Order.{ascends-if-passed, passed-if-ascends}
+use Rattle.terms.proofs.Width.{width-le}
+use Rattle.digits.proofs.Bits.{length-fields, fields-below}
 use Rattle.block.specs.Format.{size, formIn, nIn, tIn, termsIn, spareIn}
-use Rattle.answer.specs.Ending.{ends}
-use Rattle.block.specs.Calls.{readingBody, reading}
+use Rattle.block.specs.Calls.{bodyChecks, readChecks}
+use Rattle.block.proofs.Variables.{vars-below}
 
 -- the terms of a block whose header is read fit well below a word
 pub few-bits : (n t : ℕ) → n ≤ 64 → t < 2 ^ 13 → n * t ≤ 524288
 few-bits n t h k = mul-le-mul {n₁ = n} {m₁ = t} {n₂ = 64} {m₂ = 8192} h (omega arith)
 
-module _ (block : List ℕ) (n t : ℕ) (out : List ℕ) where
-  pub body-short : length block < size n t → ends Short out ≡ readingBody block n t out
-  body-short h = simp (lt-ltb (length block) (size n t) h)
+-- a block's terms pass the order check exactly if they ascend
+pub terms-ascend : (block : List ℕ) (n t : ℕ) → ltb (unordered (termsIn block n t)) t ≡ false → Asc (termsIn block n t)
+terms-ascend block n t e =
+    ascends-if-passed (termsIn block n t) (ap (ltb (unordered (termsIn block n t))) (length-fields block 24 n t) ∙ e)
 
-  pub body-extra : size n t < length block → ends Extra out ≡ readingBody block n t out
-  body-extra h = simp (le-ltb (length block) (size n t) (omega arith), lt-ltb (size n t) (length block) h)
+terms-pass : (block : List ℕ) (n t : ℕ) → Asc (termsIn block n t) → ltb (unordered (termsIn block n t)) t ≡ false
+terms-pass block n t a = ap (ltb (unordered (termsIn block n t))) (sym (length-fields block 24 n t)) ∙ passed-if-ascends (termsIn block n t) a
 
-  -- all bytes of the block are there and no more
-  module _ (whole : length block ≡ size n t) where
-    no-short : ltb (length block) (size n t) ≡ false
-    no-short = le-ltb (length block) (size n t) (le-of-eq (sym whole))
+-- the body's checks of n and t that were found are those of the header's n and t
+pub body-checked : (block : List ℕ) (n t room : ℕ) (answer : Answer) → n ≡ nIn block → t ≡ tIn block
+    → Checked (bodyChecks block n t room) answer → Checked (bodyChecks block (nIn block) (tIn block) room) answer
+body-checked block n t room answer e f c = subst (λ (k : ℕ). Checked (bodyChecks block k (tIn block) room) answer) e (subst (λ (k : ℕ). Checked (bodyChecks block n k room) answer) f c)
 
-    no-extra : ltb (size n t) (length block) ≡ false
-    no-extra = le-ltb (size n t) (length block) (le-of-eq whole)
+-- a block that read accepts
+pub record Readable (maxTerms maxVars : ℕ) (block : List ℕ) (room : ℕ) : Type 0 where
+  pub form : formIn block ≡ 1
+  pub narrow : nIn block ≤ maxVars
+  pub few : tIn block ≤ maxTerms
+  pub whole : length block ≡ size (nIn block) (tIn block)
+  pub fits : tIn block ≤ room
+  pub ascend : Asc (termsIn block (nIn block) (tIn block))
+  pub own : widthOf (termsIn block (nIn block) (tIn block)) ≡ nIn block
+  pub rest : spareIn block (nIn block) (tIn block) ≡ 0
 
-    pub body-room : length out < t → ends (Room 1) out ≡ readingBody block n t out
-    body-room h = simp (no-short, no-extra, lt-ltb (length out) t h)
+-- is one that passes the checks,
+pub readable : (maxTerms maxVars : ℕ) (block : List ℕ) (room : ℕ) → Passed (readChecks maxTerms maxVars block room) → Readable maxTerms maxVars block room
+unfolding Passed
+readable maxTerms maxVars block room p =
+    record {
+      form = search equal-if-passed;
+      narrow = search ltb-false;
+      few = search ltb-false;
+      whole = le-antisymm (search ltb-false) (search ltb-false);
+      fits = search ltb-false;
+      ascend = search terms-ascend;
+      own = le-antisymm (width-le n (vars terms) (vars-below n terms (fields-below block 24 n (tIn block)))) (search ltb-false);
+      rest = let none : spareIn block n (tIn block) ≤ 0 = search ltb-false in omega arith;
+    }
+  where
+    n : ℕ
+    n = nIn block
 
-    -- and there is room for the terms
-    module _ (room : t ≤ length out) where
-      has-room : ltb (length out) t ≡ false
-      has-room = le-ltb (length out) t room
+    terms : List ℕ
+    terms = termsIn block n (tIn block)
 
-      pub body-order : {place : ℕ} → unordered (termsIn block n t) < t → place ≡ unordered (termsIn block n t) → ends (Order 1 place) out ≡ readingBody block n t out
-      body-order h e =
-          ap (λ (place : ℕ). ends (Order 1 place) out) e
-          ∙ simp (no-short, no-extra, has-room, lt-ltb (unordered (termsIn block n t)) t h)
+-- and the other way round
+pub passed-if-readable : (maxTerms maxVars : ℕ) (block : List ℕ) (room : ℕ) → Readable maxTerms maxVars block room → Passed (readChecks maxTerms maxVars block room)
+unfolding Passed
+passed-if-readable maxTerms maxVars block room r =
+    let n = nIn block in
+    let t = tIn block in (
+      le-ltb (length block) 3 (omega (arith, r .whole)),
+      (
+        passed-if-equal (formIn block) 1 (r .form),
+        (
+          le-ltb maxVars n (r .narrow),
+          (
+            le-ltb maxTerms t (r .few),
+            (
+              le-ltb (length block) (size n t) (le-of-eq (sym (r .whole))),
+              (
+                le-ltb (size n t) (length block) (le-of-eq (r .whole)),
+                (
+                  le-ltb room t (r .fits),
+                  (
+                    terms-pass block n t (r .ascend),
+                    (
+                      le-ltb (widthOf (termsIn block n t)) n (le-of-eq (sym (r .own))),
+                      (le-ltb 0 (spareIn block n t) (le-of-eq (r .rest)), tt),
+                    ),
+                  ),
+                ),
+              ),
+            ),
+          ),
+        ),
+      ),
+    )
 
-      -- and the terms ascend
-      module _ (ascend : t ≤ unordered (termsIn block n t)) where
-        ordered : ltb (unordered (termsIn block n t)) t ≡ false
-        ordered = le-ltb (unordered (termsIn block n t)) t ascend
-
-        pub body-misfit : widthOf (termsIn block n t) < n → ends Misfit out ≡ readingBody block n t out
-        body-misfit h = simp (no-short, no-extra, has-room, ordered, lt-ltb (widthOf (termsIn block n t)) n h)
-
-        -- and n is theirs
-        module _ (fit : n ≤ widthOf (termsIn block n t)) where
-          fitting : ltb (widthOf (termsIn block n t)) n ≡ false
-          fitting = le-ltb (widthOf (termsIn block n t)) n fit
-
-          pub body-pad : 0 < spareIn block n t → ends Pad out ≡ readingBody block n t out
-          body-pad h = simp (no-short, no-extra, has-room, ordered, fitting, lt-ltb 0 (spareIn block n t) h)
-
-          pub body-done : {outcome : Outcome} {new : List ℕ} → spareIn block n t ≤ 0 → outcome ≡ Done t → new ≡ termsIn block n t ++ drop t out
-              → ends outcome new ≡ readingBody block n t out
-          body-done h e f = ap₂ ends e f ∙ simp (no-short, no-extra, has-room, ordered, fitting, le-ltb 0 (spareIn block n t) h)
-
--- and reading the header before it
-module _ (maxTerms maxVars : ℕ) (block out : List ℕ) where
-  pub head-short : length block < 3 → ends Short out ≡ reading maxTerms maxVars block out
-  head-short h = simp (lt-ltb (length block) 3 h)
-
-  -- the header is there
-  module _ (there : 3 ≤ length block) where
-    enough : ltb (length block) 3 ≡ false
-    enough = le-ltb (length block) 3 there
-
-    pub head-form : (formIn block ≡ 1 → ⊥) → ends Form out ≡ reading maxTerms maxVars block out
-    head-form h = simp (enough, ne-eqb (formIn block) 1 h)
-
-    -- and of form 1
-    module _ (form : formIn block ≡ 1) where
-      formed : eqb (formIn block) 1 ≡ true
-      formed = eq-eqb (formIn block) 1 form
-
-      pub head-wide : maxVars < nIn block → ends Wide out ≡ reading maxTerms maxVars block out
-      head-wide h = simp (enough, formed, lt-ltb maxVars (nIn block) h)
-
-      -- and n is not too large
-      module _ (narrow : nIn block ≤ maxVars) where
-        few-vars : ltb maxVars (nIn block) ≡ false
-        few-vars = le-ltb maxVars (nIn block) narrow
-
-        pub head-many : maxTerms < tIn block → ends (TooMany 1) out ≡ reading maxTerms maxVars block out
-        head-many h = simp (enough, formed, few-vars, lt-ltb maxTerms (tIn block) h)
-
-        pub head-body : tIn block ≤ maxTerms → readingBody block (nIn block) (tIn block) out ≡ reading maxTerms maxVars block out
-        head-body h = simp (enough, formed, few-vars, le-ltb maxTerms (tIn block) h)
+-- the terms written are those of the header's n and t
+pub terms-written : (block old new : List ℕ) (n t : ℕ) → n ≡ nIn block → t ≡ tIn block → new ≡ termsIn block n t ++ drop t old
+    → Writes (termsIn block (nIn block) (tIn block)) old t new
+terms-written block old new n t e f w =
+    subst (λ (k : ℕ). Writes (termsIn block k (tIn block)) old t new) e
+    (subst (λ (k : ℕ). Writes (termsIn block n k) old t new) f
+    (sym (length-fields block 24 n t), w ∙ ap (λ (k : ℕ). termsIn block n t ++ drop k old) (sym (length-fields block 24 n t))))

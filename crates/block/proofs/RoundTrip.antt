@@ -1,127 +1,102 @@
--- What the contracts of read and write come to: two endings that a contract allows coincide; reading what write wrote gives the
--- same list; writing what read accepted gives the same bytes; so every bit of an accepted block is determined by its polynomial.
--- Assumes nothing.
-use mathlib.Core.Path.{_≡_, refl, sym, ap, ap₂, _∙_}
-use mathlib.Core.List.{List, _++_}
+-- What the promises of read and write come to: two endings that a promise allows coincide; reading what write wrote gives the same list;
+-- writing what read accepted gives the same bytes; so an accepted block is the one block of its polynomial (RULES 4.3). Assumes nothing.
+use mathlib.Core.Path.{_≡_, sym, ap, _∙_, subst}
+use mathlib.Core.List.{List}
 use Prim.Native.Nat.{ℕ, _^_, _≤_, _<_}
-use native.Mathlib.Nat.{lt-of-le-of-lt, le-of-eq}
+use native.Mathlib.Nat.{lt-of-le-of-lt}
 use native.Mathlib.Omega.{arith}
-use lib.ListN.{length, take, drop}
-use lib.Seq.{take-at}
-use Rattle.answer.specs.declared.Outcome.{Outcome}
-use Rattle.answer.specs.declared.Outcome.the-variants.{Done}
-use Rattle.answer.specs.Table.{numbersOf}
+use lib.ListN.{length, take}
+use Rattle.answer.specs.declared.Answer.{Answer}
+use Rattle.answer.specs.Table.{accepted}
+use Rattle.answer.specs.Ends.{Writes, over}
+use Rattle.answer.proofs.Ends.{ends-coincide, writes-once}
 use Rattle.polys.specs.Poly.{vars}
-use Rattle.terms.specs.Order.{unordered}
 use Rattle.terms.specs.Width.{widthOf}
-use Rattle.terms.proofs.Order.{passes-if-ascending}
 use Rattle.terms.proofs.Width.{width-le}
 use Rattle.digits.specs.Number.{Below}
-use Rattle.block.specs.Format.{sizeOf, blockOf}
-use Rattle.answer.specs.Ending.{Ending, ends}
-use Rattle.block.specs.Calls.{reading, readingBody, writing}
+use Rattle.digits.proofs.Bits.{length-fields}
+use Rattle.block.specs.Format.{nIn, tIn, blockOf}
+use Rattle.block.specs.Calls.{readChecks, ReadEnds, writeChecks, WriteEnds}
 use Rattle.block.proofs.Variables.{vars-below}
-use Rattle.block.proofs.Fields.{Holds, block-holds, block-unique, length-block}
-use Rattle.block.proofs.Reading.{body-done, head-body}
-use Rattle.block.proofs.Writing.{write-done}
-use Rattle.block.proofs.Accepted.{write-accepts, read-accepts, WriteAccepts, ReadAccepts}
+use Rattle.block.proofs.Fields.{Holds, block-holds, block-unique}
+use Rattle.block.proofs.Reading.{Readable, passed-if-readable}
+use Rattle.block.proofs.Writing.{Writable, passed-if-writable}
+use Rattle.block.proofs.Accepted.{passed-writes, write-accepts, block-left, said, read-accepts, terms-read, holds-if-readable, said-if-holds, readable-if-holds}
 
--- two endings that coincide: the four numbers, and what the lent buffer holds
-pub record Coincide (r s : Outcome) (new other : List ℕ) : Type 0 where
-  pub outcome : r ≡ s
-  pub numbers : numbersOf r ≡ numbersOf s
-  pub buffer : new ≡ other
+-- two endings of read coincide, in the four numbers and in the buffer
+pub read-determined : (maxTerms maxVars : ℕ) (block old : List ℕ) (a b : Answer) (new other : List ℕ)
+    → ReadEnds maxTerms maxVars block old a new → ReadEnds maxTerms maxVars block old b other → (a ≡ b) × (new ≡ other)
+read-determined maxTerms maxVars block old a b new other e f =
+    ends-coincide old (Writes (said block) old) (writes-once (said block) old) (readChecks maxTerms maxVars block (length old)) a b new other e f
 
-coincide : (r s : Outcome) (new other : List ℕ) → ends r new ≡ ends s other → Coincide r s new other
-coincide r s new other e =
-    record {
-      outcome = ap (λ (k : Ending). k .0) e;
-      numbers = ap (λ (k : Ending). numbersOf (k .0)) e;
-      buffer = ap (λ (k : Ending). k .1) e;
-    }
-
--- two endings that read's contract allows coincide
-pub read-determined : (maxTerms maxVars : ℕ) (block old : List ℕ) (r s : Outcome) (new other : List ℕ)
-    → ends r new ≡ reading maxTerms maxVars block old → ends s other ≡ reading maxTerms maxVars block old → Coincide r s new other
-read-determined maxTerms maxVars block old r s new other e f = coincide r s new other (e ∙ sym f)
-
--- two endings that write's contract allows coincide
-pub write-determined : (maxTerms : ℕ) (terms old : List ℕ) (r s : Outcome) (new other : List ℕ)
-    → ends r new ≡ writing maxTerms terms old → ends s other ≡ writing maxTerms terms old → Coincide r s new other
-write-determined maxTerms terms old r s new other e f = coincide r s new other (e ∙ sym f)
-
--- a block that holds the fields of an ascending list is read as that list
-read-of-holds : (maxTerms maxVars : ℕ) (block terms out : List ℕ) → length terms ≤ maxTerms → widthOf terms ≤ maxVars → length terms ≤ length out
-    → unordered terms ≡ length terms → Holds block (widthOf terms) terms
-    → reading maxTerms maxVars block out ≡ ends (Done (length terms)) (terms ++ drop (length terms) out)
-read-of-holds maxTerms maxVars block terms out few narrow room ascend h =
-    sym (
-    ap (λ (l : List ℕ). ends (Done t) (l ++ drop t out)) (sym (h .inside))
-    ∙ body-done block n t out (h .long) room (le-of-eq (sym (ap unordered (h .inside) ∙ ascend))) (le-of-eq (sym (ap widthOf (h .inside)))) (le-of-eq (h .rest)) refl refl
-    ∙ ap₂ (λ (a b : ℕ). readingBody block a b out) (sym (h .vars)) (sym (h .count))
-    ∙ head-body maxTerms maxVars block out (omega (arith, h .long)) (h .form) (omega (arith, h .vars)) (omega (arith, h .count))
-    )
-  where
-    n : ℕ
-    n = widthOf terms
-
-    t : ℕ
-    t = length terms
+-- two endings of write coincide
+pub write-determined : (maxTerms : ℕ) (terms old : List ℕ) (a b : Answer) (new other : List ℕ)
+    → WriteEnds maxTerms terms old a new → WriteEnds maxTerms terms old b other → (a ≡ b) × (new ≡ other)
+write-determined maxTerms terms old a b new other e f =
+    ends-coincide old (Writes (blockOf terms) old) (writes-once (blockOf terms) old) (writeChecks maxTerms terms (length old)) a b new other e f
 
 -- reading what write wrote gives the same list
-pub read-of-written : (maxTerms maxVars : ℕ) (terms old out : List ℕ) (count : ℕ) (new : List ℕ)
+pub read-of-written : (maxTerms maxVars : ℕ) (terms old out : List ℕ) (wrote : Answer) (new : List ℕ) (got : Answer) (new′ : List ℕ)
     → maxTerms < 2 ^ 13 → maxVars < 2 ^ 7 → Below maxVars terms → length terms ≤ length out
-    → ends (Done count) new ≡ writing maxTerms terms old
-    → reading maxTerms maxVars (take count new) out ≡ ends (Done (length terms)) (terms ++ drop (length terms) out)
-read-of-written maxTerms maxVars terms old out count new few-enough narrow-enough fit room e =
-    ap (λ (b : List ℕ). reading maxTerms maxVars b out) block
-    ∙ read-of-holds maxTerms maxVars (blockOf terms) terms out (ok .few) narrow room (passes-if-ascending terms (ok .ascend))
-    (block-holds terms (lt-of-le-of-lt narrow narrow-enough) (lt-of-le-of-lt (ok .few) few-enough))
+    → WriteEnds maxTerms terms old wrote new → wrote .code ≡ 0 → ReadEnds maxTerms maxVars (take (wrote .count) new) out got new′
+    → (got ≡ accepted (length terms)) × (new′ ≡ over terms out)
+read-of-written maxTerms maxVars terms old out wrote new got new′ few-enough narrow-enough fit room e z f =
+    subst (λ (l : List ℕ). (got ≡ accepted (length l)) × (new′ ≡ over l out)) (said-if-holds block terms (widthOf terms) holds)
+    (passed-writes (readChecks maxTerms maxVars block (length out)) (said block) out got new′
+    (passed-if-readable maxTerms maxVars block (length out) (readable-if-holds maxTerms maxVars block terms (length out) (ok .few) narrow room (ok .ascend) holds))
+    (subst (λ (b : List ℕ). ReadEnds maxTerms maxVars b out got new′) (block-left maxTerms terms old wrote new e z) f))
   where
-    ok : WriteAccepts maxTerms terms old count new
-    ok = write-accepts maxTerms terms old count new e
+    ok : Writable maxTerms terms (length old)
+    ok = write-accepts maxTerms terms old wrote new e z
+
+    block : List ℕ
+    block = blockOf terms
 
     narrow : widthOf terms ≤ maxVars
     narrow = width-le maxVars (vars terms) (vars-below maxVars terms fit)
 
-    block : take count new ≡ blockOf terms
-    block = ap (take count) (ok .written) ∙ take-at (blockOf terms) (drop (sizeOf terms) old) count (length-block terms ∙ sym (ok .counted))
+    holds : Holds block (widthOf terms) terms
+    holds = block-holds terms (lt-of-le-of-lt narrow narrow-enough) (lt-of-le-of-lt (ok .few) few-enough)
 
--- the terms that read wrote
-pub terms-read : (maxTerms maxVars : ℕ) (block old : List ℕ) (count : ℕ) (new : List ℕ) (ok : ReadAccepts maxTerms maxVars block old count new)
-    → take count new ≡ ok .terms
-terms-read maxTerms maxVars block old count new ok =
-    ap (take count) (ok .written) ∙ take-at (ok .terms) (drop (length (ok .terms)) old) count (sym (ok .counted))
+-- a block that read accepted is the block of the terms it says,
+block-said : (maxTerms maxVars : ℕ) (block old : List ℕ) (got : Answer) (new : List ℕ) → Below 8 block
+    → ReadEnds maxTerms maxVars block old got new → got .code ≡ 0 → block ≡ blockOf (said block)
+block-said maxTerms maxVars block old got new bytes e z =
+    block-unique block (said block) bytes (holds-if-readable maxTerms maxVars block (length old) (read-accepts maxTerms maxVars block old got new e z))
 
--- an accepted block is the block of the terms that were read
-pub accepted-block : (maxTerms maxVars : ℕ) (block old : List ℕ) (count : ℕ) (new : List ℕ) → Below 8 block
-    → ends (Done count) new ≡ reading maxTerms maxVars block old → block ≡ blockOf (take count new)
-accepted-block maxTerms maxVars block old count new bytes e =
-    block-unique block (ok .terms) bytes (ok .holds) ∙ ap blockOf (sym (terms-read maxTerms maxVars block old count new ok))
-  where
-    ok : ReadAccepts maxTerms maxVars block old count new
-    ok = read-accepts maxTerms maxVars block old count new e
+-- which are those that were read
+pub accepted-block : (maxTerms maxVars : ℕ) (block old : List ℕ) (got : Answer) (new : List ℕ) → Below 8 block
+    → ReadEnds maxTerms maxVars block old got new → got .code ≡ 0 → block ≡ blockOf (take (got .count) new)
+accepted-block maxTerms maxVars block old got new bytes e z =
+    block-said maxTerms maxVars block old got new bytes e z ∙ ap blockOf (sym (terms-read maxTerms maxVars block old got new e z))
 
 -- writing what read accepted gives the same bytes
-pub written-of-read : (maxTerms maxVars : ℕ) (block old out : List ℕ) (count : ℕ) (new : List ℕ) → Below 8 block → length block ≤ length out
-    → ends (Done count) new ≡ reading maxTerms maxVars block old
-    → writing maxTerms (take count new) out ≡ ends (Done (length block)) (block ++ drop (length block) out)
-written-of-read maxTerms maxVars block old out count new bytes room e =
-    ap (λ (l : List ℕ). writing maxTerms l out) (terms-read maxTerms maxVars block old count new ok)
-    ∙ sym (write-done maxTerms (ok .terms) out (ok .few) (le-of-eq (sym (passes-if-ascending (ok .terms) (ok .ascend)))) (omega (arith, size-is)) refl refl)
-    ∙ ap₂ (λ (k : ℕ) (b : List ℕ). ends (Done k) (b ++ drop k out)) size-is (sym (block-unique block (ok .terms) bytes (ok .holds)))
+pub written-of-read : (maxTerms maxVars : ℕ) (block old out : List ℕ) (got : Answer) (new : List ℕ) (wrote : Answer) (new′ : List ℕ)
+    → Below 8 block → length block ≤ length out
+    → ReadEnds maxTerms maxVars block old got new → got .code ≡ 0 → WriteEnds maxTerms (take (got .count) new) out wrote new′
+    → (wrote ≡ accepted (length block)) × (new′ ≡ over block out)
+written-of-read maxTerms maxVars block old out got new wrote new′ bytes room e z f =
+    subst (λ (b : List ℕ). (wrote ≡ accepted (length b)) × (new′ ≡ over b out)) (sym (block-said maxTerms maxVars block old got new bytes e z))
+    (passed-writes (writeChecks maxTerms (said block) (length out)) (blockOf (said block)) out wrote new′
+    (passed-if-writable maxTerms (said block) (length out) writable)
+    (subst (λ (l : List ℕ). WriteEnds maxTerms l out wrote new′) (terms-read maxTerms maxVars block old got new e z) f))
   where
-    ok : ReadAccepts maxTerms maxVars block old count new
-    ok = read-accepts maxTerms maxVars block old count new e
+    ok : Readable maxTerms maxVars block (length old)
+    ok = read-accepts maxTerms maxVars block old got new e z
 
-    size-is : sizeOf (ok .terms) ≡ length block
-    size-is = sym (ok .holds .long)
+    writable : Writable maxTerms (said block) (length out)
+    writable =
+        record {
+          few = omega (arith, ok .few, length-fields block 24 (nIn block) (tIn block));
+          ascend = ok .ascend;
+          fits = omega (arith, holds-if-readable maxTerms maxVars block (length old) ok .long);
+        }
 
 -- one polynomial, one block: accepted blocks with the same terms are the same bytes
-pub one-polynomial-one-block : (maxTerms maxVars : ℕ) (block block′ old old′ : List ℕ) (count count′ : ℕ) (new new′ : List ℕ) → Below 8 block → Below 8 block′
-    → ends (Done count) new ≡ reading maxTerms maxVars block old → ends (Done count′) new′ ≡ reading maxTerms maxVars block′ old′
-    → take count new ≡ take count′ new′ → block ≡ block′
-one-polynomial-one-block maxTerms maxVars block block′ old old′ count count′ new new′ bytes bytes′ e e′ same =
-    accepted-block maxTerms maxVars block old count new bytes e
+pub one-polynomial-one-block : (maxTerms maxVars : ℕ) (block block′ old old′ : List ℕ) (got got′ : Answer) (new new′ : List ℕ) → Below 8 block → Below 8 block′
+    → ReadEnds maxTerms maxVars block old got new → got .code ≡ 0 → ReadEnds maxTerms maxVars block′ old′ got′ new′ → got′ .code ≡ 0
+    → take (got .count) new ≡ take (got′ .count) new′ → block ≡ block′
+one-polynomial-one-block maxTerms maxVars block block′ old old′ got got′ new new′ bytes bytes′ e z e′ z′ same =
+    accepted-block maxTerms maxVars block old got new bytes e z
     ∙ ap blockOf same
-    ∙ sym (accepted-block maxTerms maxVars block′ old′ count′ new′ bytes′ e′)
+    ∙ sym (accepted-block maxTerms maxVars block′ old′ got′ new′ bytes′ e′ z′)

@@ -1,18 +1,17 @@
--- The terms of a block, one by one: where each stands, the order check over them, and n of terms that ascend.
+-- The terms of a block, one by one: where each stands, the order check over them, and what stands behind them.
 -- Leans on the laws of fields and of term lists. Assumes nothing.
 use mathlib.Core.Path.{_≡_, refl, sym, ap, _∙_, subst}
 use mathlib.Core.List.{List, [], _∷_, _++_}
-use Prim.Native.Nat.{ℕ, zero, suc, _+_, _*_, _≤_, _<_}
+use Prim.Native.Nat.{ℕ, zero, suc, _+_, _-_, _*_, _≤_, _<_}
 use native.Mathlib.Nat.{mul-le-mul-left, mul-suc, mul-zero}
 use native.Mathlib.Numerals.{add-one}
 use native.Mathlib.Omega.{arith}
 use lib.ListN.{length, getD, take, drop, set}
-use Rattle.polys.specs.Poly.{vars}
 use Rattle.terms.specs.Order.{unordered, rising}
-use Rattle.terms.specs.Width.{width, widthOf, halvings}
 use Rattle.terms.proofs.Order.{unordered-from-first, rising-at-end, rising-stops, rising-goes-on}
 use Rattle.digits.specs.Number.{bits, fields}
 use Rattle.digits.proofs.Bits.{length-fields}
+use Rattle.block.specs.Format.{size, spareIn}
 
 -- a field before the t-th ends before it
 pub within : (n i t : ℕ) → i < t → 24 + n * i + n ≤ 24 + n * t
@@ -30,10 +29,10 @@ field-at bytes o n (suc t) zero h = ap (λ (e : ℕ). bits bytes e n) {x = o} {y
 field-at bytes o n (suc t) (suc i) h =
     field-at bytes (o + n) n t i (omega arith) ∙ ap (λ (e : ℕ). bits bytes e n) {x = o + n + n * i} {y = o + n * suc i} (omega (arith, mul-suc n i))
 
--- no terms, no variables
-pub no-terms : (bytes : List ℕ) (n : ℕ) → widthOf (fields bytes 24 n 0) ≡ 0
-unfolding fields vars width halvings
-no-terms bytes n = refl
+-- the bits behind the terms of a block of the right length
+pub behind-terms : (bytes : List ℕ) (n t found : ℕ) → length bytes ≡ size n t → found ≡ bits bytes (24 + n * t) (8 * length bytes - (24 + n * t))
+    → found ≡ spareIn bytes n t
+behind-terms bytes n t found e f = f ∙ ap (λ (k : ℕ). bits bytes (24 + n * t) (8 * k - (24 + n * t))) e
 
 -- the order check begins at the second term
 pub order-begins : (bytes : List ℕ) (n t first : ℕ) → 0 < t → first ≡ bits bytes 24 n

@@ -1,6 +1,6 @@
 -- n of a list of terms: every term fits n bits, and where the terms ascend the last one alone gives n.
 -- Leans on the laws of masks, polynomials and widths. Assumes nothing.
-use mathlib.Core.Path.{_≡_, sym, subst}
+use mathlib.Core.Path.{_≡_, refl, sym, subst}
 use mathlib.Core.List.{List, [], _∷_}
 use mathlib.Core.Logic.{_⊎_, inl, inr, ⊎-elim}
 use Prim.Native.Nat.{ℕ, zero, suc, _^_, _≤_, _<_}
@@ -14,7 +14,7 @@ use Rattle.polys.specs.List.{Asc}
 use Rattle.polys.specs.Poly.{vars}
 use Rattle.polys.proofs.Lists.{mem-at, asc-at}
 use Rattle.polys.proofs.Polys.{vars-nil, vars-cons, vars-hold}
-use Rattle.terms.specs.Width.{width, widthOf}
+use Rattle.terms.specs.Width.{width, widthOf, halvings}
 use Rattle.terms.proofs.Width.{width-bounds, width-unique}
 use Rattle.digits.specs.Number.{Below}
 
@@ -25,13 +25,10 @@ vars-below k (x ∷ l) h =
     subst (λ (m : ℕ). m < 2 ^ k) (sym (vars-cons x l)) (or-lt k x (vars l) (h 0) (vars-below k l (λ i. h (suc i))))
 
 -- numbers compare one way or the other
-pub lt-or-le : (a b : ℕ) → (a < b) ⊎ (b ≤ a)
+lt-or-le : (a b : ℕ) → (a < b) ⊎ (b ≤ a)
 lt-or-le a zero = inr (omega arith)
 lt-or-le zero (suc b) = inl (omega arith)
 lt-or-le (suc a) (suc b) = ⊎-elim (λ p. inl (omega arith)) (λ p. inr (omega arith)) (lt-or-le a b)
-
-pub ne-or-eq : (a b : ℕ) → (a ≡ b → ⊥) ⊎ (a ≡ b)
-ne-or-eq a b = ⊎-elim (λ p. inl (λ q. omega arith)) (λ p. ⊎-elim (λ r. inl (λ q. omega arith)) (λ r. inr (omega arith)) (lt-or-le b a)) (lt-or-le a b)
 
 -- what holds of each term and of 0 holds at every index
 at-each : (k : ℕ) (l : List ℕ) → ((i : ℕ) → i < length l → getD l i 0 < 2 ^ k) → Below k l
@@ -62,3 +59,9 @@ width-by-last l k asc e =
         (λ p. subst (λ (j : ℕ). getD l j 0 < 2 ^ width last) (sym p) (width-bounds last .above))
         (λ p. lt-of-le-of-lt (omega (arith, asc-at l i k asc p (omega arith))) (width-bounds last .above))
         (eq-or-lt-of-le {n = i} {m = k} (omega arith))
+
+-- a list of no terms has no variables
+pub width-of-none : (l : List ℕ) → length l ≡ 0 → widthOf l ≡ 0
+unfolding vars width halvings
+width-of-none [] e = refl
+width-of-none (x ∷ l) e = absurd (let z : ⊥ = omega arith in z)

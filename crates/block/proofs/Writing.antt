@@ -1,38 +1,43 @@
--- How writing a block ends, case by case, in the order of the checks. Assumes nothing.
-use mathlib.Core.Path.{_≡_, ap, ap₂, _∙_}
-use mathlib.Core.Bool.{false}
+-- What write's checks (specs/Calls.antt) tell where they pass, when they pass, and that the block is then written. Leans on the laws of
+-- order and of the block's size. Assumes nothing.
+use mathlib.Core.Path.{_≡_, sym, ap, _∙_}
 use mathlib.Core.List.{List, _++_}
-use Prim.Native.Nat.{ℕ, _≤_, _<_}
-use lib.Dec.{ltb}
+use Prim.Native.Nat.{ℕ, _≤_}
+use borrow.Author.Tests.{ltb-false, le-ltb}
 use lib.ListN.{length, drop}
-use borrow.Author.Tests.{le-ltb, lt-ltb}
-use Rattle.answer.specs.declared.Outcome.{Outcome}
-use Rattle.answer.specs.declared.Outcome.the-variants.{Done, TooMany, Order, Room}
-use Rattle.terms.specs.Order.{unordered}
-use Rattle.block.specs.Format.{sizeOf, blockOf}
-use Rattle.answer.specs.Ending.{ends}
-use Rattle.block.specs.Calls.{writing}
+use Rattle.answer.specs.Ends.{Writes}
+use Rattle.answer.specs.Checked.{Passed}
+use Rattle.polys.specs.List.{Asc}
+use Rattle.terms.specs.Width.{widthOf}
+use Rattle.terms.proofs.Order.{ascends-if-passed, passed-if-ascends}
+use Rattle.block.specs.Format.{size, sizeOf, blockOf}
+use Rattle.block.specs.Calls.{writeChecks}
+use Rattle.block.proofs.Fields.{length-block}
 
-module _ (maxTerms : ℕ) (terms out : List ℕ) where
-  pub write-many : maxTerms < length terms → ends (TooMany 1) out ≡ writing maxTerms terms out
-  write-many h = simp (lt-ltb maxTerms (length terms) h)
+-- a list that write accepts
+pub record Writable (maxTerms : ℕ) (terms : List ℕ) (room : ℕ) : Type 0 where
+  pub few : length terms ≤ maxTerms
+  pub ascend : Asc terms
+  pub fits : sizeOf terms ≤ room
 
-  -- the terms are not too many
-  module _ (few : length terms ≤ maxTerms) where
-    not-many : ltb maxTerms (length terms) ≡ false
-    not-many = le-ltb maxTerms (length terms) few
+-- is one that passes the checks,
+pub writable : (maxTerms : ℕ) (terms : List ℕ) (room : ℕ) → Passed (writeChecks maxTerms terms room) → Writable maxTerms terms room
+unfolding Passed
+writable maxTerms terms room p = record { few = search ltb-false; ascend = search ascends-if-passed; fits = search ltb-false }
 
-    pub write-order : {place : ℕ} → unordered terms < length terms → place ≡ unordered terms → ends (Order 1 place) out ≡ writing maxTerms terms out
-    write-order h e = ap (λ (place : ℕ). ends (Order 1 place) out) e ∙ simp (not-many, lt-ltb (unordered terms) (length terms) h)
+-- and the other way round
+pub passed-if-writable : (maxTerms : ℕ) (terms : List ℕ) (room : ℕ) → Writable maxTerms terms room → Passed (writeChecks maxTerms terms room)
+unfolding Passed
+passed-if-writable maxTerms terms room w =
+    (le-ltb maxTerms (length terms) (w .few), (passed-if-ascends terms (w .ascend), (le-ltb room (sizeOf terms) (w .fits), tt)))
 
-    -- and they ascend
-    module _ (ascend : length terms ≤ unordered terms) where
-      ordered : ltb (unordered terms) (length terms) ≡ false
-      ordered = le-ltb (unordered terms) (length terms) ascend
+-- the size found by n and the number of terms is that of the block,
+pub size-found : (terms : List ℕ) (n found : ℕ) → n ≡ widthOf terms → found ≡ size n (length terms) → found ≡ sizeOf terms
+size-found terms n found e f = f ∙ ap (λ (k : ℕ). size k (length terms)) e
 
-      pub write-room : length out < sizeOf terms → ends (Room 1) out ≡ writing maxTerms terms out
-      write-room h = simp (not-many, ordered, lt-ltb (length out) (sizeOf terms) h)
-
-      pub write-done : {outcome : Outcome} {new : List ℕ} → sizeOf terms ≤ length out → outcome ≡ Done (sizeOf terms) → new ≡ blockOf terms ++ drop (sizeOf terms) out
-          → ends outcome new ≡ writing maxTerms terms out
-      write-done h e f = ap₂ ends e f ∙ simp (not-many, ordered, le-ltb (length out) (sizeOf terms) h)
+-- and it counts the bytes written
+pub block-written : (terms old new : List ℕ) (n found : ℕ) → n ≡ widthOf terms → found ≡ size n (length terms)
+    → new ≡ blockOf terms ++ drop (sizeOf terms) old → Writes (blockOf terms) old found new
+block-written terms old new n found e f w =
+    let length-is = length-block terms in
+    (size-found terms n found e f ∙ sym length-is, w ∙ ap (λ (k : ℕ). blockOf terms ++ drop k old) (sym length-is))

@@ -1,4 +1,4 @@
--- Document 01, "The packed block", word for word: the bits of a polynomial's block, one by one.
+-- The bits of a polynomial's block one by one, as RULES 4.1 has its fields.
 use Prim.Native.Nat.{ℕ}
 use mathlib.Core.Bool.{Bool, false}
 use mathlib.Core.List.{List, _++_}
@@ -7,8 +7,7 @@ use Rattle.terms.specs.Width.{widthOf}
 use Rattle.digits.specs.Bitwise.{bitsOf, row}
 use Rattle.block.specs.Format.{spare}
 
--- "4 bits form number, 1; 7 bits n; 13 bits t, the number of terms; then t terms ascending, n bits each, highest variable first;
--- then zero bits to the end of the byte"
+-- form number, n, t, terms, padding
 abbrev pub blockBits : List ℕ → List Bool
 blockBits terms =
     bitsOf 4 1

@@ -1,4 +1,4 @@
--- Bits one by one, for a reader who wants to lay them beside the page: a number's bits most significant first, and the bits of
+-- Bits one by one, for a reader who wants to lay them beside RULES 4.1: a number's bits most significant first, and the bits of
 -- numbers one behind the other.
 use Prim.Native.Nat.{ℕ, zero, suc}
 use mathlib.Core.Bool.{Bool}

@@ -1,5 +1,5 @@
--- Numbers written in digits, and fields of bits in a row of bytes (document 01, "The packed block": "Fields most significant bit
--- first, no gaps"). A base is written by its exponent: digits of w bits are digits in base 2 ^ w. Bytes are digits of 8 bits, and
+-- Numbers written in digits, and fields of bits in a row of bytes, one directly behind the other, most significant bit first
+-- (RULES 4.1). A base is written by its exponent: digits of w bits are digits in base 2 ^ w. Bytes are digits of 8 bits, and
 -- the terms of a block are digits of n bits. Nothing here names a limit.
 use Prim.Native.Nat.{ℕ, zero, suc, _+_, _-_, _*_, _/_, _%_, _^_, _<_}
 use mathlib.Core.List.{List, [], _∷_}

@@ -1,5 +1,5 @@
 // Numbers written in digits: a field of bits read from a row of bytes, and bits put behind those already written
-// (document 01, "The packed block"). Both go byte by byte.
+// (RULES 4.1). Both go byte by byte.
 ghost use mathlib.Core.Path.{_≡_};
 ghost use Prim.Native.Nat.{ℕ, _+_, _-_, _*_, _/_, _%_, _^_, _≤_, _<_};
 ghost use lib.ListN.{length};

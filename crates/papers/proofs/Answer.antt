@@ -2,28 +2,24 @@
 -- its checks, and by the papers' rule AD = BC exactly if no part holds both variables.
 use Prim.Native.Nat.{ℕ, _+_, _-_, _*_, _%_, _^_, _≤_, _<_}
 use mathlib.Core.Path.{_≡_, refl, sym, ap, ap₂, _∙_, subst}
-use mathlib.Core.Bool.{Bool, true, false, true≢false, false≢true}
+use mathlib.Core.Bool.{Bool, true, false, true≢false}
 use mathlib.Core.List.{List, [], _++_, append-assoc}
 use mathlib.Core.Logic.{_↔_, inl, inr}
-use native.Mathlib.Nat.{le-trans, le-of-eq, lt-of-not-le, one-mul, zero-add}
+use native.Mathlib.Nat.{le-trans, lt-of-not-le, one-mul, zero-add}
 use native.Mathlib.Omega.{arith}
-use borrow.Author.Tests.{le-ltb}
 use lib.Bits.{bitOr}
-use lib.Dec.{ltb}
 use lib.ListN.{length, take, drop, length-append}
 use lib.Pow.{shl-exact}
 use lib.Seq.{take-at, drop-at}
-use Rattle.answer.specs.declared.Outcome.{Outcome}
-use Rattle.answer.specs.declared.Outcome.the-variants.{Done}
-use Rattle.answer.specs.Ending.{if, over}
+use Rattle.answer.specs.declared.Answer.{Answer}
+use Rattle.answer.specs.Ends.{over}
+use Rattle.answer.proofs.Ends.{passed-accepts}
 use Rattle.masks.specs.Bit.{bit}
 use Rattle.masks.proofs.Bits.{bit-zero, bits-above-vanish}
 use Rattle.polys.specs.List.{Asc}
 use Rattle.polys.specs.Poly.{vars}
 use Rattle.polys.specs.Parts.{IsParts}
 use Rattle.polys.proofs.Polys.{vars-nil}
-use Rattle.terms.specs.Order.{unordered}
-use Rattle.terms.proofs.Order.{passes-if-ascending}
 use Rattle.exists.specs.PartsOf.{partsOf}
 use Rattle.exists.proofs.Exist.{partsOf-is-parts}
 use Rattle.ring.specs.Run.{lacking}
@@ -31,9 +27,10 @@ use Rattle.ring.specs.Same.{one-if, SameProducts}
 use Rattle.rule.specs.Rule.{derivative, Below, PapersSay, together}
 use Rattle.rule.proofs.Derivative.{lacking-asc, derivative-asc}
 use Rattle.rule.proofs.Rule.{papers-rule}
-use Rattle.same.specs.Same.{Judged, OrderEnds, SameEnds}
-use Rattle.papers.specs.Together.{fourLists, Accepted}
-use Rattle.papers.specs.Steps.{selected, fourSelected, Laid, Askable, saysYes}
+use Rattle.same.specs.Same.{sameChecks, Judged, SameEnds}
+use Rattle.same.proofs.Passing.{passed-if-ascending}
+use Rattle.papers.specs.Together.{fourLists, Tells}
+use Rattle.papers.specs.Steps.{selected, fourSelected, Laid, Askable}
 use Rattle.papers.proofs.FourLists.{derivative-selected, at-zero-selected, mixed-selected, other-selected, four-selected, derivative-shorter, lacking-shorter}
 
 -- ---- the lists as parts of the room
@@ -96,44 +93,28 @@ module _ (x y : ℕ) (f old new : List ℕ) (a b c d : ℕ) (other : ¬ (x ≡ y
 
 -- ---- lists that pass the checks are judged
 
-otherwise : (t : Bool) (P Q : Type 0) → t ≡ false → if t P Q → Q
-otherwise true P Q e h = absurd (true≢false e)
-otherwise false P Q e h = h
-
 -- what is said of four lists is said of equal ones
-of-equal-lists : (max n : ℕ) (o : Outcome) (a d b c : List ℕ) {a′ d′ b′ c′ : List ℕ} → a ≡ a′ → d ≡ d′ → b ≡ b′ → c ≡ c′
+of-equal-lists : (max n : ℕ) (o : Answer) (a d b c : List ℕ) {a′ d′ b′ c′ : List ℕ} → a ≡ a′ → d ≡ d′ → b ≡ b′ → c ≡ c′
     → SameEnds max n a d b c o → SameEnds max n a′ d′ b′ c′ o
 of-equal-lists max n o a d b c {a′} {d′} {b′} {c′} ea ed eb ec h =
     subst (λ k. SameEnds max n a′ d′ b′ k o) ec
     (subst (λ k. SameEnds max n a′ d′ k c o) eb (subst (λ k. SameEnds max n a′ k b c o) ed (subst (λ k. SameEnds max n k d b c o) ea h)))
 
--- a list in order passes the check for order
-passes : (l : List ℕ) → Asc l → ltb (unordered l) (length l) ≡ false
-passes l asc = le-ltb (unordered l) (length l) (le-of-eq (sym (passes-if-ascending l asc)))
-
-judged-if-in-order : (max n : ℕ) (a d b c : List ℕ) (o : Outcome) → length a ≤ max → length d ≤ max → length b ≤ max → length c ≤ max
-    → Asc a → Asc d → Asc b → Asc c → SameEnds max n a d b c o → Judged n a d b c o
-unfolding SameEnds OrderEnds
+judged-if-in-order : (max n : ℕ) (a d b c : List ℕ) (o : Answer) → length a ≤ max → length d ≤ max → length b ≤ max → length c ≤ max
+    → Asc a → Asc d → Asc b → Asc c → SameEnds max n a d b c o → Judged n a d b c (o .count) (tt {0})
 judged-if-in-order max n a d b c o la ld lb lc pa pd pb pc h =
-    otherwise (ltb (unordered c) (length c)) _ _ (passes c pc)
-    (otherwise (ltb (unordered b) (length b)) _ _ (passes b pb)
-    (otherwise (ltb (unordered d) (length d)) _ _ (passes d pd)
-    (otherwise (ltb (unordered a) (length a)) _ _ (passes a pa)
-    (otherwise (ltb max (length c)) _ _ (le-ltb max (length c) lc)
-    (otherwise (ltb max (length b)) _ _ (le-ltb max (length b) lb)
-    (otherwise (ltb max (length d)) _ _ (le-ltb max (length d) ld)
-    (otherwise (ltb max (length a)) _ _ (le-ltb max (length a) la) h)))))))
+    let p = passed-if-ascending max a d b c la ld lb lc pa pd pb pc in
+    let w = passed-accepts (tt {0}) (Judged n a d b c) (sameChecks max a d b c) o (tt {0}) p h in
+    subst (λ k. Judged n a d b c k (tt {0})) (sym (ap (λ (x : Answer). x .count) (w .1))) (w .2)
 
 -- a yes says that the products are the same, anything else that they are not
-same-if-yes : (n : ℕ) (a d b c : List ℕ) (o : Outcome) → Judged n a d b c o → saysYes o ≡ true → SameProducts n a d b c
-unfolding saysYes
-same-if-yes n a d b c o (inl j) e = j .1
-same-if-yes n a d b c o (inr j) e = absurd (false≢true (sym (ap saysYes (j .0)) ∙ e))
+same-if-yes : (n : ℕ) (a d b c : List ℕ) (k : ℕ) → Judged n a d b c k (tt {0}) → k ≡ 1 → SameProducts n a d b c
+same-if-yes n a d b c k (inl j) e = j .1
+same-if-yes n a d b c k (inr j) e = absurd (let z : ⊥ = omega (arith, j .0) in z)
 
-not-same-if-no : (n : ℕ) (a d b c : List ℕ) (o : Outcome) → Judged n a d b c o → saysYes o ≡ false → ¬ SameProducts n a d b c
-unfolding saysYes
-not-same-if-no n a d b c o (inl j) e = absurd (true≢false (sym (ap saysYes (j .0)) ∙ e))
-not-same-if-no n a d b c o (inr j) e = j .1
+not-same-if-no : (n : ℕ) (a d b c : List ℕ) (k : ℕ) → Judged n a d b c k (tt {0}) → (k ≡ 1 → ⊥) → ¬ SameProducts n a d b c
+not-same-if-no n a d b c k (inl j) e = absurd (e (j .0))
+not-same-if-no n a d b c k (inr j) e = j .1
 
 -- ---- the answer
 
@@ -156,12 +137,12 @@ module _ (max n : ℕ) (f : List ℕ) (x y room : ℕ) (ask : Askable max n f x 
   rule : (together x y (partsOf f) ≡ false) ↔ PapersSay n f x y
   rule = papers-rule n f (partsOf f) x y parts-of-list all-below (ask .has-x) (ask .has-y) (ask .other)
 
-  module _ (old new : List ℕ) (a b c d px py : ℕ) (ex : px ≡ 2 ^ x) (ey : py ≡ 2 ^ y) (laid : Laid px py f old new a b c d) (said : Outcome)
+  module _ (old new : List ℕ) (a b c d px py : ℕ) (ex : px ≡ 2 ^ x) (ey : py ≡ 2 ^ y) (laid : Laid px py f old new a b c d) (said : Answer)
       (ends : SameEnds max n (take (a - 0) (drop 0 new)) (take (d - c) (drop c new)) (take (b - a) (drop a new)) (take (c - b) (drop b new)) said) where
     laid-as-powers : Laid (2 ^ x) (2 ^ y) f old new a b c d
     laid-as-powers = subst (λ p. Laid p (2 ^ y) f old new a b c d) ex (subst (λ q. Laid px q f old new a b c d) ey laid)
 
-    judged : Judged n (derivative x f) (derivative y (lacking x f)) (lacking x f) (derivative y (derivative x f)) said
+    judged : Judged n (derivative x f) (derivative y (lacking x f)) (lacking x f) (derivative y (derivative x f)) (said .count) (tt {0})
     judged =
         let a₁ = derivative-asc x f (ask .ascends) in
         let a₀ = lacking-asc x f (ask .ascends) in
@@ -179,18 +160,18 @@ module _ (max n : ℕ) (f : List ℕ) (x y room : ℕ) (ask : Askable max n f x 
     written-so : new ≡ over (fourLists f x y) old
     written-so = laid-as-powers .stands ∙ ap (λ l. over l old) (four-selected x y (ask .other) f)
 
-    pub apart-if-yes : saysYes said ≡ true → Accepted f x y old (Done 0) new
+    pub apart-if-yes : said .count ≡ 1 → Tells f x y old 0 new
     apart-if-yes e = (
       partsOf f,
       parts-of-list,
-      ap (λ t. Done (one-if t)) (sym (rule .1 (same-if-yes n (derivative x f) (derivative y (lacking x f)) (lacking x f) (derivative y (derivative x f)) said judged e))),
+      ap one-if (sym (rule .1 (same-if-yes n (derivative x f) (derivative y (lacking x f)) (lacking x f) (derivative y (derivative x f)) (said .count) judged e))),
       written-so,
     )
 
-    pub together-if-no : saysYes said ≡ false → Accepted f x y old (Done 1) new
-    together-if-no e = (partsOf f, parts-of-list, ap (λ t. Done (one-if t)) (sym (go (together x y (partsOf f)) refl)), written-so)
+    pub together-if-no : (said .count ≡ 1 → ⊥) → Tells f x y old 1 new
+    together-if-no e = (partsOf f, parts-of-list, ap one-if (sym (go (together x y (partsOf f)) refl)), written-so)
       where
         go : (t : Bool) → together x y (partsOf f) ≡ t → together x y (partsOf f) ≡ true
         go true t = t
         go false t =
-            absurd (not-same-if-no n (derivative x f) (derivative y (lacking x f)) (lacking x f) (derivative y (derivative x f)) said judged e (rule .0 t))
+            absurd (not-same-if-no n (derivative x f) (derivative y (lacking x f)) (lacking x f) (derivative y (derivative x f)) (said .count) judged e (rule .0 t))

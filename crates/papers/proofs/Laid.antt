@@ -7,7 +7,7 @@ use native.Mathlib.Omega.{arith}
 use lib.Bits.{bitOr}
 use lib.ListN.{length, length-append}
 use Rattle.grow.specs.Steps.{written}
-use Rattle.answer.specs.Ending.{over}
+use Rattle.answer.specs.Ends.{over}
 use Rattle.papers.specs.Steps.{selected, fourSelected, Laid}
 use Rattle.papers.proofs.Selecting.{written-behind, written-first}
 

@@ -3,4 +3,4 @@ pub mod Selecting
 pub mod FourLists
 pub mod Laid
 pub mod Answer
-pub mod Endings
+pub mod Passing

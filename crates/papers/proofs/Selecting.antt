@@ -14,7 +14,7 @@ use lib.Seq.{take-suc, drop-cons, drop-drop, take-append-seam, drop-append-add}
 use Rattle.polys.specs.List.{either}
 use Rattle.grow.specs.Steps.{written}
 use Rattle.grow.proofs.Written.{written-none, written-one-more}
-use Rattle.answer.specs.Ending.{over}
+use Rattle.answer.specs.Ends.{over}
 use Rattle.papers.specs.Steps.{selected}
 
 module _ (fixed value : ℕ) where

@@ -2,17 +2,14 @@
 -- of it.
 use Prim.Native.Nat.{ℕ, _+_, _*_, _^_, _≤_, _<_}
 use mathlib.Core.Path.{_≡_}
-use mathlib.Core.Bool.{Bool, false}
 use mathlib.Core.List.{List, [], _∷_, _++_}
 use lib.Bits.{bitAnd, bitOr, bitXor}
 use lib.Dec.{eqb}
 use lib.ListN.{length}
-use Rattle.answer.specs.declared.Outcome.{Outcome}
-use Rattle.answer.specs.declared.Outcome.the-variants.{Done, Zero, TooMany, Order, Shared, TooLarge, Room, Work, Form, Wide, Short, Misfit, Extra, Pad}
 use Rattle.polys.specs.List.{Asc, either}
 use Rattle.polys.specs.Poly.{vars}
 use Rattle.rule.specs.Rule.{Occurs}
-use Rattle.answer.specs.Ending.{over}
+use Rattle.answer.specs.Ends.{over}
 
 -- of the terms that have just `value` of the variables `fixed`: what is left of them without it
 unfoldable pub selected : ℕ → ℕ → List ℕ → List ℕ
@@ -43,20 +40,3 @@ pub record Askable (maxTerms maxVars : ℕ) (f : List ℕ) (x y room : ℕ) : Ty
   pub low-y : y < maxVars
   pub other : ¬ (x ≡ y)
   pub fits : 2 * length f ≤ room
-
--- an outcome that is a yes
-unfoldable pub saysYes : Outcome → Bool
-saysYes (Done count) = eqb count 1
-saysYes Zero = false
-saysYes (TooMany operand) = false
-saysYes (Order operand place) = false
-saysYes Shared = false
-saysYes TooLarge = false
-saysYes (Room operand) = false
-saysYes Work = false
-saysYes Form = false
-saysYes Wide = false
-saysYes Short = false
-saysYes Misfit = false
-saysYes Extra = false
-saysYes Pad = false

@@ -1,14 +1,13 @@
--- How asking the papers' rule about two variables ends (document 01, "Deciding AD = BC" and "What comes back"): the checks in order, what a
--- refusal leaves, and what an accepted question answers and leaves. The limit comes in as `maxTerms`, the constant of the term list.
+-- How asking the papers' rule about two variables ends (RULES 8.3): the checks in order, and what an accepted question answers and
+-- leaves. The limit comes in as `maxTerms`, the constant of the term list.
 use Prim.Native.Nat.{ℕ, _*_}
 use mathlib.Core.Path.{_≡_}
 use mathlib.Core.Bool.{not}
-use mathlib.Core.List.{List, _++_}
+use mathlib.Core.List.{List, [], _∷_, _++_}
 use lib.Dec.{ltb, eqb}
 use lib.ListN.{length}
-use Rattle.answer.specs.declared.Outcome.{Outcome}
-use Rattle.answer.specs.declared.Outcome.the-variants.{Done, TooMany, Order, Shared, Room, Misfit}
-use Rattle.answer.specs.Ending.{if, over}
+use Rattle.answer.specs.declared.Answer.{Answer}
+use Rattle.answer.specs.Ends.{Check, check, Ends, over}
 use Rattle.masks.specs.Bit.{bit}
 use Rattle.polys.specs.Poly.{vars}
 use Rattle.polys.specs.Parts.{IsParts}
@@ -20,23 +19,21 @@ use Rattle.rule.specs.Rule.{derivative, atZero, together}
 unfoldable pub fourLists : List ℕ → ℕ → ℕ → List ℕ
 fourLists f x y = derivative x f ++ (atZero x f ++ (derivative y (derivative x f) ++ derivative y (atZero x f)))
 
--- refused: this outcome, and the room holds its old content
-abbrev pub Refused : Outcome → List ℕ → Outcome → List ℕ → Type 0
-Refused refusal old outcome new = (outcome ≡ refusal) × (new ≡ old)
+-- the checks of the question in their order: test, code, operand, place
+abbrev pub togetherChecks : ℕ → List ℕ → ℕ → ℕ → ℕ → List Check
+togetherChecks maxTerms f x y room =
+    check (ltb maxTerms (length f)) 2 1 0
+    ∷ check (ltb (unordered f) (length f)) 3 1 (unordered f)
+    ∷ check (not (bit (vars f) x)) 11 1 0
+    ∷ check (not (bit (vars f) y)) 11 1 0
+    ∷ check (eqb x y) 4 0 0
+    ∷ check (ltb room (2 * length f)) 6 1 0
+    ∷ []
 
 -- accepted: count 1 if some part of f holds both x and y, 0 if none does; the four lists stand at the start of the room
-abbrev pub Accepted : List ℕ → ℕ → ℕ → List ℕ → Outcome → List ℕ → Type 0
-Accepted f x y old outcome new =
-    (ps : List (List ℕ)) × IsParts f ps × (outcome ≡ Done (one-if (together x y ps))) × (new ≡ over (fourLists f x y) old)
+abbrev pub Tells : List ℕ → ℕ → ℕ → List ℕ → ℕ → List ℕ → Type 0
+Tells f x y old count new = (ps : List (List ℕ)) × IsParts f ps × (count ≡ one-if (together x y ps)) × (new ≡ over (fourLists f x y) old)
 
--- how it ends: too many terms; terms out of order; a variable that does not occur; one variable given twice; a room under 2 words a
--- term; or accepted
-unfoldable pub TogetherEnds : ℕ → List ℕ → ℕ → ℕ → List ℕ → Outcome → List ℕ → Type 0
-TogetherEnds maxTerms f x y old outcome new =
-    if (ltb maxTerms (length f)) (Refused (TooMany 1) old outcome new)
-    (if (ltb (unordered f) (length f)) (Refused (Order 1 (unordered f)) old outcome new)
-    (if (not (bit (vars f) x)) (Refused Misfit old outcome new)
-    (if (not (bit (vars f) y)) (Refused Misfit old outcome new)
-    (if (eqb x y) (Refused Shared old outcome new)
-    (if (ltb (length old) (2 * length f)) (Refused (Room 1) old outcome new)
-    (Accepted f x y old outcome new))))))
+-- how it ends: a check refuses, or the question is answered
+abbrev pub TogetherEnds : ℕ → List ℕ → ℕ → ℕ → List ℕ → Answer → List ℕ → Type 0
+TogetherEnds maxTerms f x y old answer new = Ends (togetherChecks maxTerms f x y (length old)) old (Tells f x y old) answer new

@@ -7,7 +7,7 @@ use native.Mathlib.Nat.{add-comm}
 use native.Mathlib.Numerals.{add-one}
 use lib.ListN.{length, getD, take, drop, set, length-append, length-drop, length-set}
 use lib.Seq.{length-take-le, take-suc, drop-cons, set-at, getD-append-add, getD-drop, take-length, take-at}
-use Rattle.answer.specs.Ending.{over}
+use Rattle.answer.specs.Ends.{over}
 
 -- the first i words of l, and behind them what stood there in r
 abbrev pub copied : List ℕ → List ℕ → ℕ → List ℕ

@@ -2,5 +2,5 @@ pub mod Copying
 pub mod Taking
 pub mod Splitting
 pub mod Round
-pub mod Ends
+pub mod Passing
 pub mod Determined

@@ -23,7 +23,7 @@ use Rattle.splitting.proofs.Splits.{splits-of-closed}
 use Rattle.splitting.proofs.Growing.{Growing, growing-done, rest-falls, rest-has-fewer}
 use Rattle.unique.proofs.Counts.{sum-below-product}
 use Rattle.grow.specs.Steps.{PartOfLowest, Ready}
-use Rattle.answer.specs.Ending.{over}
+use Rattle.answer.specs.Ends.{over}
 use Rattle.parts.specs.Split.{joined, lengths}
 use Rattle.parts.specs.Steps.{Taken, Written}
 use Rattle.parts.proofs.Splitting.{Splitting, stored-one-more, noted-one-more, joined-append, joined-one, lengths-append}

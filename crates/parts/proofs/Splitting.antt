@@ -12,7 +12,7 @@ use lib.Seq.{take-at, drop-at, take-all, drop-drop, drop-cons, set-at}
 use Rattle.polys.specs.List.{Asc}
 use Rattle.polys.specs.Poly.{vars, onto, off}
 use Rattle.polys.specs.Parts.{IsParts}
-use Rattle.answer.specs.Ending.{over}
+use Rattle.answer.specs.Ends.{over}
 use Rattle.parts.specs.Split.{joined, lengths}
 
 -- t is the number of terms of f, and m bounds the number of its variables

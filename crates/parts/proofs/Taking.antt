@@ -5,7 +5,7 @@ use mathlib.Core.List.{List}
 use native.Mathlib.Omega.{arith}
 use lib.ListN.{length, take, drop}
 use Rattle.grow.specs.Steps.{PartOfLowest, Stands}
-use Rattle.answer.specs.Ending.{over}
+use Rattle.answer.specs.Ends.{over}
 use Rattle.parts.specs.Steps.{Taken}
 
 pub taken : (f work after room filled : List ℕ) (n y part rest : ℕ) → PartOfLowest f y → Stands f n y work part rest

@@ -1,13 +1,11 @@
--- Document 01, split: the order of checks "2, 1, 3, 6 (part terms), 6 (part lengths), 7", what a refusal leaves and what an
--- accepted split leaves. The limits come in as `maxTerms` and `maxVars`, the constants of the term list.
+-- How split ends, for every list and all lent buffers (docs/RULES.md, 5.3 and 5.4). The limits are those of the term list and come in as numbers.
 use Prim.Native.Nat.{ℕ, _+_, _*_}
 use mathlib.Core.Path.{_≡_}
 use mathlib.Core.List.{List, [], _∷_, _++_, map}
 use lib.Dec.{ltb, eqb}
 use lib.ListN.{length, replicate}
-use Rattle.answer.specs.declared.Outcome.{Outcome}
-use Rattle.answer.specs.declared.Outcome.the-variants.{Done, Zero, TooMany, Order, Room, Work}
-use Rattle.answer.specs.Ending.{if, over}
+use Rattle.answer.specs.declared.Answer.{Answer}
+use Rattle.answer.specs.Ends.{Check, check, Ends, over}
 use Rattle.polys.specs.Parts.{IsParts}
 use Rattle.terms.specs.Order.{unordered}
 
@@ -26,23 +24,24 @@ pub record Buffers : Type 0 where
   pub lengths : List ℕ
   pub work : List ℕ
 
--- refused: this outcome, and every lent buffer holds its old content
-abbrev pub Refused : Outcome → Buffers → Outcome → Buffers → Type 0
-Refused refusal old outcome new = (outcome ≡ refusal) × (new ≡ old)
+-- the checks of split in their order: test, code, operand, place; `terms`, `lengths` and `work` are how many words are lent for each
+abbrev pub splitChecks : ℕ → ℕ → List ℕ → ℕ → ℕ → ℕ → List Check
+splitChecks maxTerms maxVars f terms lengths work =
+    check (ltb maxTerms (length f)) 2 1 0
+    ∷ check (eqb (length f) 0) 1 1 0
+    ∷ check (ltb (unordered f) (length f)) 3 1 (unordered f)
+    ∷ check (ltb terms (length f + maxVars)) 6 1 0
+    ∷ check (ltb lengths maxVars) 6 1 0
+    ∷ check (ltb work (4 * length f)) 7 1 0
+    ∷ []
 
--- accepted: the parts of f, counted, one after another from the start of the part terms, their lengths in order, every word of the work area 0
-abbrev pub Accepted : List ℕ → Buffers → Outcome → Buffers → Type 0
-Accepted f old outcome new =
-    (ps : List (List ℕ)) × IsParts f ps × (outcome ≡ Done (length ps))
+-- what acceptance means: the parts of f are counted, they and their lengths stand at the start of their buffers, and every word of the work area is 0
+abbrev pub Splits : List ℕ → Buffers → ℕ → Buffers → Type 0
+Splits f old count new =
+    (ps : List (List ℕ)) × IsParts f ps × (count ≡ length ps)
     × (new ≡ record { terms = over (joined ps) (old .terms); lengths = over (lengths ps) (old .lengths); work = replicate (length (old .work)) 0 })
 
--- how a split of f ends: the checks in document 01's order, then the parts
-unfoldable pub SplitEnds : ℕ → ℕ → List ℕ → Buffers → Outcome → Buffers → Type 0
-SplitEnds maxTerms maxVars f old outcome new =
-    if (ltb maxTerms (length f)) (Refused (TooMany 1) old outcome new)
-    (if (eqb (length f) 0) (Refused Zero old outcome new)
-    (if (ltb (unordered f) (length f)) (Refused (Order 1 (unordered f)) old outcome new)
-    (if (ltb (length (old .terms)) (length f + maxVars)) (Refused (Room 1) old outcome new)
-    (if (ltb (length (old .lengths)) maxVars) (Refused (Room 1) old outcome new)
-    (if (ltb (length (old .work)) (4 * length f)) (Refused Work old outcome new)
-    (Accepted f old outcome new))))))
+-- how split ends: a check refuses, or the buffers hold the parts
+abbrev pub SplitEnds : ℕ → ℕ → List ℕ → Buffers → Answer → Buffers → Type 0
+SplitEnds maxTerms maxVars f old answer new =
+    Ends (splitChecks maxTerms maxVars f (length (old .terms)) (length (old .lengths)) (length (old .work))) old (Splits f old) answer new

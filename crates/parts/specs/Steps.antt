@@ -9,7 +9,7 @@ use Rattle.polys.specs.List.{Asc}
 use Rattle.polys.specs.Poly.{vars, onto, off}
 use Rattle.polys.specs.Parts.{IsParts}
 use Rattle.grow.specs.Steps.{PartOfLowest}
-use Rattle.answer.specs.Ending.{over}
+use Rattle.answer.specs.Ends.{over}
 use Rattle.parts.specs.Split.{joined, lengths}
 
 -- the part of the lowest variable of f is written into the room, and the rest stands in the work area

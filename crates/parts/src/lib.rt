@@ -1,4 +1,4 @@
-// Split (document 01): an equation's irreducible parts, each written into the room behind the last one.
+// Split (RULES 2.5, 5.3, 5.4): takes the parts of an equation out one by one and lays them back to back in the lent buffer.
 use answer::Outcome;
 use terms::TermList;
 ghost use mathlib.Core.Path.{_≡_};
@@ -9,8 +9,10 @@ ghost use lib.Count.{ones};
 ghost use Rattle.polys.specs.List.{Asc};
 ghost use Rattle.polys.specs.Poly.{vars};
 ghost use Rattle.grow.specs.Steps.{Ready};
-ghost use Rattle.answer.specs.Ending.{over};
-ghost use Rattle.parts.specs.Split.{SplitEnds};
+ghost use Rattle.answer.specs.Table.{numbersOf};
+ghost use Rattle.answer.specs.Ends.{over};
+ghost use Rattle.answer.specs.Checked.{Passed, Checked};
+ghost use Rattle.parts.specs.Split.{splitChecks, Splits, SplitEnds};
 ghost use Rattle.parts.specs.Steps.{Taken, Written};
 
 // The list, written at the start of the room.
@@ -91,18 +93,33 @@ fn write_parts(
     k
 }
 
-// The irreducible parts of an equation: document 01's split.
-pub fn split(
+// Writes the parts of a list that passed the checks, clears the work area, and counts the parts.
+fn take_apart(
     list: &[u64],
     part_terms: &mut [u64],
     part_lengths: &mut [u64],
     work: &mut [u64],
-) -> Outcome
+) -> usize
+    requires { do
+      ⌜ Passed (splitChecks (← ⟦TermList::MAX_TERMS⟧) (← ⟦TermList::MAX_VARS⟧) (now list)
+          (length (now «part_terms»)) (length (now «part_lengths»)) (length (now work))) ⌝ }
+    ensures { λ r.
+        ⌜ Splits (now (list .entry))
+        (record { terms = now («part_terms» .entry); lengths = now («part_lengths» .entry); work = now (work .entry) })
+        r
+        (record { terms = now («part_terms» .exit); lengths = now («part_lengths» .exit); work = now (work .exit) }) ⌝ }
+{
+    put(list, work);
+    let count = write_parts(part_terms, part_lengths, work, list.len());
+    clear(work);
+    count
+}
+
+// What is refused, in the order of the rules; the last three are the words lent for part terms, for part lengths and for work.
+fn checks(list: &[u64], room: usize, lengths: usize, work: usize) -> Outcome
     ensures { λ r. do
-      ⌜ SplitEnds (← ⟦TermList::MAX_TERMS⟧ .entry) (← ⟦TermList::MAX_VARS⟧ .entry) (now (list .entry))
-          (record { terms = now («part_terms» .entry); lengths = now («part_lengths» .entry); work = now (work .entry) })
-          r
-          (record { terms = now («part_terms» .exit); lengths = now («part_lengths» .exit); work = now (work .exit) }) ⌝ }
+      ⌜ Checked (splitChecks (← ⟦TermList::MAX_TERMS⟧ .entry) (← ⟦TermList::MAX_VARS⟧ .entry) (now (list .entry)) room lengths work)
+          (numbersOf r) ⌝ }
 {
     let t = list.len();
     if TermList::MAX_TERMS < t {
@@ -118,18 +135,36 @@ pub fn split(
             place: place as u64,
         };
     }
-    if part_terms.len() < t + TermList::MAX_VARS {
+    if room < t + TermList::MAX_VARS {
         return Outcome::Room { operand: 1 };
     }
-    if part_lengths.len() < TermList::MAX_VARS {
+    if lengths < TermList::MAX_VARS {
         return Outcome::Room { operand: 1 };
     }
-    if work.len() < 4 * t {
+    if work < 4 * t {
         return Outcome::Work;
     }
-    put(list, work);
-    let count = write_parts(part_terms, part_lengths, work, t);
-    clear(work);
+    Outcome::Done { count: 0 }
+}
+
+// The irreducible parts of an equation.
+pub fn split(
+    list: &[u64],
+    part_terms: &mut [u64],
+    part_lengths: &mut [u64],
+    work: &mut [u64],
+) -> Outcome
+    ensures { λ r. do
+      ⌜ SplitEnds (← ⟦TermList::MAX_TERMS⟧ .entry) (← ⟦TermList::MAX_VARS⟧ .entry) (now (list .entry))
+          (record { terms = now («part_terms» .entry); lengths = now («part_lengths» .entry); work = now (work .entry) })
+          (numbersOf r)
+          (record { terms = now («part_terms» .exit); lengths = now («part_lengths» .exit); work = now (work .exit) }) ⌝ }
+{
+    let verdict = checks(list, part_terms.len(), part_lengths.len(), work.len());
+    if answer::refuses(verdict) {
+        return verdict;
+    }
+    let count = take_apart(list, part_terms, part_lengths, work);
     Outcome::Done {
         count: count as u64,
     }

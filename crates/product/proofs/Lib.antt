@@ -1,5 +1,5 @@
 pub mod Rows
 pub mod Cut
 pub mod Steps
-pub mod Checks
+pub mod Passing
 pub mod Algebra

@@ -1,4 +1,4 @@
-// Multiply (document 01): the product of two term lists that share no variable. The unions are written in ascending order at
+// Multiply (RULES 2.1): the product of two term lists that share no variable. The unions are written in ascending order at
 // once, with no sorting and no work area: the list that differs in the higher variable is cut where that variable comes in, and
 // the two halves' products stand one behind the other.
 ghost use Prim.Native.Nat.{_+_, _-_, _*_, _≤_, _<_};
@@ -7,15 +7,29 @@ ghost use mathlib.Core.List.{map};
 ghost use lib.Bits.{bitOr, bitXor};
 ghost use lib.ListN.{length, getD};
 ghost use Rattle.polys.specs.Poly.{times};
-ghost use Rattle.answer.specs.Ending.{ends};
-ghost use Rattle.product.specs.Multiply.{multiplying};
+ghost use Rattle.answer.specs.Table.{numbersOf};
+ghost use Rattle.answer.specs.Ends.{Writes};
+ghost use Rattle.answer.specs.Checked.{Passed, Checked};
+ghost use Rattle.product.specs.Multiply.{multiplyChecks, MultiplyEnds};
 ghost use Rattle.product.specs.Unions.{Ready, Run};
 use answer::Outcome;
 use terms::TermList;
 
 // The product of two polynomials that share no variable, into a lent room of as many words as it has terms.
 pub fn multiply(a: &[u64], b: &[u64], out: &mut [u64]) -> Outcome
-    ensures { λ r. do ⌜ ends r (now (out .exit)) ≡ multiplying (← ⟦TermList::MAX_TERMS⟧ .entry) (now (a .entry)) (now (b .entry)) (now (out .entry)) ⌝ }
+    ensures { λ r. do ⌜ MultiplyEnds (← ⟦TermList::MAX_TERMS⟧ .entry) (now (a .entry)) (now (b .entry)) (now (out .entry)) (numbersOf r) (now (out .exit)) ⌝ }
+{
+    let verdict = checks(a, b, out.len());
+    if answer::refuses(verdict) {
+        return verdict;
+    }
+    let count = write_product(a, b, out) as u64;
+    Outcome::Done { count }
+}
+
+// What is refused, in the order of the rules.
+fn checks(a: &[u64], b: &[u64], room: usize) -> Outcome
+    ensures { λ r. do ⌜ Checked (multiplyChecks (← ⟦TermList::MAX_TERMS⟧ .entry) (now (a .entry)) (now (b .entry)) room) (numbersOf r) ⌝ }
 {
     if TermList::MAX_TERMS < a.len() {
         return Outcome::TooMany { operand: 1 };
@@ -37,21 +51,38 @@ pub fn multiply(a: &[u64], b: &[u64], out: &mut [u64]) -> Outcome
             place: j as u64,
         };
     }
-    let shared = terms::variables(a) & terms::variables(b);
+    let shared = terms::shared(a, b);
     if shared != 0 {
         return Outcome::Shared;
     }
-    let n = a.len() * b.len();
+    let n = product_count(a, b);
     if TermList::MAX_TERMS < n {
         return Outcome::TooLarge;
     }
-    if out.len() < n {
+    if room < n {
         return Outcome::Room { operand: 0 };
     }
+    Outcome::Done { count: 0 }
+}
+
+// How many terms the product of two lists within the limit has, where they share no variable.
+fn product_count(a: &[u64], b: &[u64]) -> usize
+    requires { do ⌜ (length (now a) ≤ (← ⟦TermList::MAX_TERMS⟧)) × (length (now b) ≤ (← ⟦TermList::MAX_TERMS⟧)) ⌝ }
+    ensures { λ r. ⌜ r ≡ length (now (a .entry)) * length (now (b .entry)) ⌝ }
+{
+    a.len() * b.len()
+}
+
+// Writes the product of two lists that passed the checks, and counts its terms.
+fn write_product(a: &[u64], b: &[u64], out: &mut [u64]) -> usize
+    requires { do ⌜ Passed (multiplyChecks (← ⟦TermList::MAX_TERMS⟧) (now a) (now b) (length (now out))) ⌝ }
+    ensures { λ r. ⌜ Writes (times (now (a .entry)) (now (b .entry))) (now (out .entry)) r (now (out .exit)) ⌝ }
+{
+    let n = a.len() * b.len();
     if 0 < n {
         unions(a, b, &mut out[0..n]);
     }
-    Outcome::Done { count: n as u64 }
+    n
 }
 
 // The unions of one term with each of b.

@@ -1,3 +1,3 @@
--- Laws of same products: the chain of checks, and what follows from the promise.
-pub mod Chain
+-- Laws of same products: what its checks tell, and what follows from the promise.
+pub mod Passing
 pub mod Promise

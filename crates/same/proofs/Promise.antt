@@ -1,54 +1,28 @@
--- What follows from the promise of same products: two outcomes that it allows coincide, so the four numbers are determined for
--- every input; and AD = BC is symmetric in the ways one expects.
+-- What follows from the promise of same products: for every input one answer; and AD = BC is symmetric in the ways one expects.
+-- Assumes nothing.
 use mathlib.Core.Path.{_≡_, refl, sym, ap, _∙_}
-use mathlib.Core.Bool.{Bool, true, false}
 use mathlib.Core.List.{List}
 use mathlib.Core.Logic.{inl, inr}
 use Prim.Native.Nat.{ℕ}
-use lib.Dec.{ltb}
-use lib.ListN.{length}
-use Rattle.answer.specs.declared.Outcome.{Outcome}
-use Rattle.answer.specs.Table.{numbersOf}
-use Rattle.terms.specs.Order.{unordered}
+use Rattle.answer.specs.declared.Answer.{Answer}
+use Rattle.answer.proofs.Ends.{Determined, ends-coincide}
 use Rattle.ring.specs.Same.{SameProducts}
 use Rattle.ring.proofs.Series.{laws}
 use Rattle.ring.proofs.Value.{value}
 use Rattle.ring.proofs.Bridge.{same-from-equal, equal-from-same}
-use Rattle.answer.specs.Ending.{if}
-use Rattle.same.specs.Same.{Judged, OrderEnds, SameEnds}
+use Rattle.same.specs.Same.{sameChecks, Judged, SameEnds}
 
--- ---- two outcomes coincide
+-- a statement does not hold and fail at once
+pub judged-once : (n : ℕ) (a d b c : List ℕ) → Determined (Judged n a d b c)
+judged-once n a d b c x y u v (inl p) (inl q) = (p .0 ∙ sym (q .0), refl)
+judged-once n a d b c x y u v (inl p) (inr q) = absurd (q .1 (p .1))
+judged-once n a d b c x y u v (inr p) (inl q) = absurd (p .1 (q .1))
+judged-once n a d b c x y u v (inr p) (inr q) = (p .0 ∙ sym (q .0), refl)
 
-refused-once : (test : Bool) (o o′ refusal : Outcome) (P Q : Type 0) → (P → Q → o ≡ o′) → if test (o ≡ refusal) P → if test (o′ ≡ refusal) Q → o ≡ o′
-refused-once true o o′ refusal P Q next e e′ = e ∙ sym e′
-refused-once false o o′ refusal P Q next p q = next p q
-
-judged-once : (n : ℕ) (a d b c : List ℕ) (o o′ : Outcome) → Judged n a d b c o → Judged n a d b c o′ → o ≡ o′
-judged-once n a d b c o o′ (inl p) (inl q) = p .0 ∙ sym (q .0)
-judged-once n a d b c o o′ (inl p) (inr q) = absurd (q .1 (p .1))
-judged-once n a d b c o o′ (inr p) (inl q) = absurd (p .1 (q .1))
-judged-once n a d b c o o′ (inr p) (inr q) = p .0 ∙ sym (q .0)
-
-order-once : (n : ℕ) (a d b c : List ℕ) (o o′ : Outcome) → OrderEnds n a d b c o → OrderEnds n a d b c o′ → o ≡ o′
-unfolding OrderEnds
-order-once n a d b c o o′ =
-    refused-once (ltb (unordered a) (length a)) o o′ _ _ _
-    (refused-once (ltb (unordered d) (length d)) o o′ _ _ _
-    (refused-once (ltb (unordered b) (length b)) o o′ _ _ _
-    (refused-once (ltb (unordered c) (length c)) o o′ _ _ _ (judged-once n a d b c o o′))))
-
--- for every input the promise leaves one outcome
-pub outcome-determined : (max n : ℕ) (a d b c : List ℕ) (o o′ : Outcome) → SameEnds max n a d b c o → SameEnds max n a d b c o′ → o ≡ o′
-unfolding SameEnds
-outcome-determined max n a d b c o o′ =
-    refused-once (ltb max (length a)) o o′ _ _ _
-    (refused-once (ltb max (length d)) o o′ _ _ _
-    (refused-once (ltb max (length b)) o o′ _ _ _
-    (refused-once (ltb max (length c)) o o′ _ _ _ (order-once n a d b c o o′))))
-
--- and so its four numbers
-pub numbers-determined : (max n : ℕ) (a d b c : List ℕ) (o o′ : Outcome) → SameEnds max n a d b c o → SameEnds max n a d b c o′ → numbersOf o ≡ numbersOf o′
-numbers-determined max n a d b c o o′ p q = ap numbersOf (outcome-determined max n a d b c o o′ p q)
+-- two answers that the promise allows coincide
+pub same-products-is-determined : (max n : ℕ) (a d b c : List ℕ) (x y : Answer) → SameEnds max n a d b c x → SameEnds max n a d b c y → x ≡ y
+same-products-is-determined max n a d b c x y p q =
+    ends-coincide (tt {0}) (Judged n a d b c) (judged-once n a d b c) (sameChecks max a d b c) x y (tt {0}) (tt {0}) p q .0
 
 -- ---- symmetries
 

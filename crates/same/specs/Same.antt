@@ -1,37 +1,33 @@
--- Document 01, same products: the order of checks "2 for each operand, then 3 for each", operands in the order A, D, B, C, then
--- "count 1 for yes, 0 for no". The limits come in as `maxTerms` and `maxVars`, the constants of the term list. What yes says
--- is SameProducts of crate ring, in document 01's own words. Nothing is written, so the outcome is all that there is to promise.
+-- How same products ends, for every four lists (RULES 5.3). The operands are A, D, B, C, in this order. The limits come in as `maxTerms` and
+-- `maxVars`, the constants of the term list. What yes says is SameProducts of crate ring. Nothing is written, so no buffer is spoken of.
 use Prim.Native.Nat.{ℕ}
 use mathlib.Core.Path.{_≡_}
-use mathlib.Core.List.{List}
+use mathlib.Core.List.{List, [], _∷_}
 use mathlib.Core.Logic.{_⊎_}
 use lib.Dec.{ltb}
 use lib.ListN.{length}
-use Rattle.answer.specs.declared.Outcome.{Outcome}
-use Rattle.answer.specs.declared.Outcome.the-variants.{Done, TooMany, Order}
-use Rattle.answer.specs.Ending.{if}
+use Rattle.answer.specs.declared.Answer.{Answer}
+use Rattle.answer.specs.Ends.{Check, check, Ends}
 use Rattle.terms.specs.Order.{unordered}
 use Rattle.ring.specs.Same.{SameProducts}
 
+-- the checks of same products in their order: test, code, operand, place
+abbrev pub sameChecks : ℕ → List ℕ → List ℕ → List ℕ → List ℕ → List Check
+sameChecks maxTerms a d b c =
+    check (ltb maxTerms (length a)) 2 1 0
+    ∷ check (ltb maxTerms (length d)) 2 2 0
+    ∷ check (ltb maxTerms (length b)) 2 3 0
+    ∷ check (ltb maxTerms (length c)) 2 4 0
+    ∷ check (ltb (unordered a) (length a)) 3 1 (unordered a)
+    ∷ check (ltb (unordered d) (length d)) 3 2 (unordered d)
+    ∷ check (ltb (unordered b) (length b)) 3 3 (unordered b)
+    ∷ check (ltb (unordered c) (length c)) 3 4 (unordered c)
+    ∷ []
+
 -- accepted: 1 exactly if AD = BC, 0 exactly if not
-abbrev pub Judged : ℕ → List ℕ → List ℕ → List ℕ → List ℕ → Outcome → Type 0
-Judged maxVars a d b c outcome =
-    ((outcome ≡ Done 1) × SameProducts maxVars a d b c) ⊎ ((outcome ≡ Done 0) × ¬ SameProducts maxVars a d b c)
+abbrev pub Judged : ℕ → List ℕ → List ℕ → List ℕ → List ℕ → ℕ → Unit {0} → Type 0
+Judged maxVars a d b c count none = ((count ≡ 1) × SameProducts maxVars a d b c) ⊎ ((count ≡ 0) × ¬ SameProducts maxVars a d b c)
 
--- the first list that is not in order is refused with its place, else the lists are judged
-unfoldable pub OrderEnds : ℕ → List ℕ → List ℕ → List ℕ → List ℕ → Outcome → Type 0
-OrderEnds maxVars a d b c outcome =
-    if (ltb (unordered a) (length a)) (outcome ≡ Order 1 (unordered a))
-    (if (ltb (unordered d) (length d)) (outcome ≡ Order 2 (unordered d))
-    (if (ltb (unordered b) (length b)) (outcome ≡ Order 3 (unordered b))
-    (if (ltb (unordered c) (length c)) (outcome ≡ Order 4 (unordered c))
-    (Judged maxVars a d b c outcome))))
-
--- how same products ends: the first list that is too long is refused, else the order is checked
-unfoldable pub SameEnds : ℕ → ℕ → List ℕ → List ℕ → List ℕ → List ℕ → Outcome → Type 0
-SameEnds maxTerms maxVars a d b c outcome =
-    if (ltb maxTerms (length a)) (outcome ≡ TooMany 1)
-    (if (ltb maxTerms (length d)) (outcome ≡ TooMany 2)
-    (if (ltb maxTerms (length b)) (outcome ≡ TooMany 3)
-    (if (ltb maxTerms (length c)) (outcome ≡ TooMany 4)
-    (OrderEnds maxVars a d b c outcome))))
+-- how same products ends: a check refuses, or the lists are judged
+abbrev pub SameEnds : ℕ → ℕ → List ℕ → List ℕ → List ℕ → List ℕ → Answer → Type 0
+SameEnds maxTerms maxVars a d b c answer = Ends (sameChecks maxTerms a d b c) (tt {0}) (Judged maxVars a d b c) answer (tt {0})

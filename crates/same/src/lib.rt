@@ -1,13 +1,29 @@
-// Same products (document 01, "Deciding AD = BC"): whether AD = BC for any four lists, shared variables included. The lists are
-// checked, then the four-list test of crate cross answers. Nothing is written.
+// Same products (RULES 3): whether AD = BC for any four lists, shared variables included. The lists are checked, then the four-list
+// test of crate cross answers. Nothing is written.
 ghost use mathlib.Core.Path.{_≡_};
-ghost use Rattle.same.specs.Same.{OrderEnds, SameEnds};
+ghost use Rattle.answer.specs.Table.{numbersOf};
+ghost use Rattle.answer.specs.Checked.{Passed, Checked};
+ghost use Rattle.same.specs.Same.{sameChecks, Judged, SameEnds};
 use answer::Outcome;
 use terms::TermList;
 
 // Whether AD = BC: count 1 for yes, 0 for no. The operands are A, D, B, C, in this order.
 pub fn same_products(a: &[u64], d: &[u64], b: &[u64], c: &[u64]) -> Outcome
-    ensures { λ r. do ⌜ SameEnds (← ⟦TermList::MAX_TERMS⟧ .entry) (← ⟦TermList::MAX_VARS⟧ .entry) (now (a .entry)) (now (d .entry)) (now (b .entry)) (now (c .entry)) r ⌝ }
+    ensures { λ r. do
+      ⌜ SameEnds (← ⟦TermList::MAX_TERMS⟧ .entry) (← ⟦TermList::MAX_VARS⟧ .entry) (now (a .entry)) (now (d .entry)) (now (b .entry)) (now (c .entry)) (numbersOf r) ⌝ }
+{
+    let verdict = checks(a, d, b, c);
+    if answer::refuses(verdict) {
+        return verdict;
+    }
+    let count = judge(a, d, b, c);
+    Outcome::Done { count }
+}
+
+// What is refused, in the order of the rules.
+fn checks(a: &[u64], d: &[u64], b: &[u64], c: &[u64]) -> Outcome
+    ensures { λ r. do
+      ⌜ Checked (sameChecks (← ⟦TermList::MAX_TERMS⟧ .entry) (now (a .entry)) (now (d .entry)) (now (b .entry)) (now (c .entry))) (numbersOf r) ⌝ }
 {
     if TermList::MAX_TERMS < a.len() {
         return Outcome::TooMany { operand: 1 };
@@ -21,43 +37,46 @@ pub fn same_products(a: &[u64], d: &[u64], b: &[u64], c: &[u64]) -> Outcome
     if TermList::MAX_TERMS < c.len() {
         return Outcome::TooMany { operand: 4 };
     }
-    in_order(a, d, b, c)
-}
-
-// The order of each list is checked, then the lists are judged.
-fn in_order(a: &[u64], d: &[u64], b: &[u64], c: &[u64]) -> Outcome
-    ensures { λ r. do ⌜ OrderEnds (← ⟦TermList::MAX_VARS⟧ .entry) (now (a .entry)) (now (d .entry)) (now (b .entry)) (now (c .entry)) r ⌝ }
-{
     let i = terms::first_unordered(a);
     if i < a.len() {
-        return disorder(1, i);
+        return Outcome::Order {
+            operand: 1,
+            place: i as u64,
+        };
     }
     let j = terms::first_unordered(d);
     if j < d.len() {
-        return disorder(2, j);
+        return Outcome::Order {
+            operand: 2,
+            place: j as u64,
+        };
     }
     let m = terms::first_unordered(b);
     if m < b.len() {
-        return disorder(3, m);
+        return Outcome::Order {
+            operand: 3,
+            place: m as u64,
+        };
     }
     let n = terms::first_unordered(c);
     if n < c.len() {
-        return disorder(4, n);
+        return Outcome::Order {
+            operand: 4,
+            place: n as u64,
+        };
     }
-    let vars = TermList::MAX_VARS as u64;
-    if cross::same(a, d, b, c, vars) {
-        Outcome::Done { count: 1 }
-    } else {
-        Outcome::Done { count: 0 }
-    }
+    Outcome::Done { count: 0 }
 }
 
-// The refusal of an operand for its order, at a place.
-fn disorder(operand: u64, place: usize) -> Outcome
-    ensures { λ r. ⌜ r ≡ Outcome.Order operand place ⌝ }
+// The answer for four lists that passed the checks.
+fn judge(a: &[u64], d: &[u64], b: &[u64], c: &[u64]) -> u64
+    requires { do ⌜ Passed (sameChecks (← ⟦TermList::MAX_TERMS⟧) (now a) (now d) (now b) (now c)) ⌝ }
+    ensures { λ r. do ⌜ Judged (← ⟦TermList::MAX_VARS⟧ .entry) (now (a .entry)) (now (d .entry)) (now (b .entry)) (now (c .entry)) r (tt {0}) ⌝ }
 {
-    Outcome::Order {
-        operand,
-        place: place as u64,
+    let vars = TermList::MAX_VARS as u64;
+    let equal = cross::same(a, d, b, c, vars);
+    if equal {
+        return 1;
     }
+    0
 }

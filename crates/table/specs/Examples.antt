@@ -1,4 +1,4 @@
--- Document 01, "Checked examples": every example marked P, once, in the document's order, and what it means that one holds.
+-- The examples of RULES 7 that are marked P, each once, in their order there, and what it means that one holds.
 -- It holds by what the calls promise: the contract allows an end, and every end that it allows is the one that the row states.
 use Prim.Native.Nat.{ℕ, _+_, _*_, _≤_}
 use mathlib.Core.Path.{_≡_}
@@ -6,9 +6,8 @@ use mathlib.Core.Bool.{Bool, true, false}
 use mathlib.Core.List.{List, [], _∷_}
 use lib.ListN.{length, replicate}
 use Rattle.answer.specs.declared.Answer.{Answer}
-use Rattle.answer.specs.declared.Outcome.{Outcome}
-use Rattle.answer.specs.Table.{numbersOf, accepted, refused}
-use Rattle.answer.specs.Ending.{over}
+use Rattle.answer.specs.Table.{accepted, refused}
+use Rattle.answer.specs.Ends.{over}
 use Rattle.parts.specs.Split.{Buffers, joined, lengths, SplitEnds}
 use Rattle.ring.specs.Same.{one-if}
 use Rattle.same.specs.Same.{SameEnds}
@@ -29,7 +28,7 @@ yes = true
 abbrev no : Bool
 no = false
 
--- the examples marked P, in the document's order
+-- the examples marked P, in the order of RULES 7
 unfoldable pub examples : List Row
 examples =
     refuses [] 1 0
@@ -55,9 +54,9 @@ pub record Enough (maxVars t : ℕ) (lent : Buffers) : Type 0 where
   pub work : 4 * t ≤ length (lent .work)
 
 -- a call ends with these four numbers and these buffers, and in no other way
-pub record EndsOnly {B : Type 0} (ends : Outcome → B → Type 0) (answer : Answer) (buffers : B) : Type 0 where
-  pub allowed : (outcome : Outcome) × ends outcome buffers × (numbersOf outcome ≡ answer)
-  pub only : (outcome : Outcome) (new : B) → ends outcome new → (numbersOf outcome ≡ answer) × (new ≡ buffers)
+pub record EndsOnly {B : Type 0} (ends : Answer → B → Type 0) (answer : Answer) (buffers : B) : Type 0 where
+  pub allowed : ends answer buffers
+  pub only : (other : Answer) (new : B) → ends other new → (other ≡ answer) × (new ≡ buffers)
 
 -- the buffers after an accepted split: the parts one behind the other, their lengths in order, the work area 0
 abbrev pub written : List (List ℕ) → Buffers → Buffers
@@ -71,7 +70,7 @@ Holds maxTerms maxVars (splits f ps) =
 Holds maxTerms maxVars (refuses f code place) =
     (lent : Buffers) → EndsOnly (SplitEnds maxTerms maxVars f lent) (refused code 1 place) lent
 Holds maxTerms maxVars (same-products a d b c answer) =
-    EndsOnly {B = Unit {0}} (λ outcome _. SameEnds maxTerms maxVars a d b c outcome) (accepted (one-if answer)) tt
+    EndsOnly {B = Unit {0}} (λ other _. SameEnds maxTerms maxVars a d b c other) (accepted (one-if answer)) tt
 
 -- every example of a list holds
 abbrev pub AllHold : (maxTerms maxVars : ℕ) → List Row → Type 0

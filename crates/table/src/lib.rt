@@ -1,4 +1,4 @@
-// The examples of document 01 that are marked P, as one table in specs/, proved once from the contracts of the calls.
+// The examples of RULES 7 that are marked P, as one table in specs/, proved once from the contracts of the calls.
 use terms::TermList;
 ghost use Rattle.table.specs.Examples.{examples, AllHold};
 

@@ -93,3 +93,10 @@ pub passes-if-ascending : (l : List ℕ) → Asc l → unordered l ≡ length l
 unfolding unordered
 passes-if-ascending [] a = refl
 passes-if-ascending (x ∷ l) a = ap suc (rises x l (a .0) (a .1))
+
+-- a list passes the check of a call exactly if it ascends
+pub ascends-if-passed : (l : List ℕ) → ltb (unordered l) (length l) ≡ false → Asc l
+ascends-if-passed l e = in-order l (omega (arith, ltb-false (unordered l) (length l) e, unordered-le l))
+
+pub passed-if-ascends : (l : List ℕ) → Asc l → ltb (unordered l) (length l) ≡ false
+passed-if-ascends l h = le-ltb (unordered l) (length l) (omega (arith, passes-if-ascending l h))

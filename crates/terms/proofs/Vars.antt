@@ -1,12 +1,14 @@
 -- Laws of the variables of a list, gathered from its end. Assumes nothing.
-use Prim.Native.Nat.{ℕ, zero, suc, _+_, _-_, _≤_, _<_}
-use mathlib.Core.Path.{_≡_, refl, sym, ap, _∙_}
+use Prim.Native.Nat.{ℕ, zero, suc, _+_, _-_, _^_, _≤_, _<_}
+use mathlib.Core.Path.{_≡_, refl, sym, ap, _∙_, subst}
 use mathlib.Core.List.{List, [], _∷_}
 use native.Mathlib.Omega.{arith}
-use lib.Bits.{bitOr}
+use lib.Bits.{bitOr, or-lt}
 use lib.ListN.{length, getD, drop}
+use lib.Pow.{pow-pos}
 use lib.Seq.{drop-cons, drop-length}
 use Rattle.polys.specs.Poly.{vars}
+use Rattle.polys.proofs.Polys.{vars-nil, vars-cons}
 
 -- past the end there are none
 pub vars-at-end : (l : List ℕ) → 0 ≡ vars (drop (length l) l)
@@ -28,3 +30,9 @@ pub vars-one-more : (l : List ℕ) (i all : ℕ) → 0 < i → i ≤ length l �
 vars-one-more l i all pos h e =
     let step : i ≡ suc (i - 1) = omega arith in
     ap (bitOr (getD l (i - 1) 0)) (e ∙ ap (λ (j : ℕ). vars (drop j l)) step) ∙ vars-from-here l (i - 1) (omega arith)
+
+-- the variables of terms of k bits have k bits
+pub vars-below : (k : ℕ) (l : List ℕ) → ((i : ℕ) → getD l i 0 < 2 ^ k) → vars l < 2 ^ k
+vars-below k [] h = subst (λ (m : ℕ). m < 2 ^ k) (sym vars-nil) (pow-pos k)
+vars-below k (x ∷ l) h =
+    subst (λ (m : ℕ). m < 2 ^ k) (sym (vars-cons x l)) (or-lt k x (vars l) (h 0) (vars-below k l (λ i. h (suc i))))

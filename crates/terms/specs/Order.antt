@@ -1,4 +1,4 @@
--- Document 01, code 3: "a term not above the one before it; place = its first such index, from 0".
+-- The first term that is out of order, by its index from 0: the place that code 3 gives (RULES 5.1 and 5.2).
 use Prim.Native.Nat.{ℕ, zero, suc}
 use mathlib.Core.Bool.{Bool, true, false}
 use mathlib.Core.List.{List, [], _∷_}

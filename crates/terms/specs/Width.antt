@@ -1,4 +1,4 @@
--- Document 01, "The packed block": "n is one more than the highest variable, 0 if there is none".
+-- n of a polynomial (RULES 1.4): the number of its highest variable plus 1, or 0 where it has no variable.
 use Prim.Native.Nat.{ℕ, zero, suc, _/_}
 use mathlib.Core.List.{List}
 use Rattle.polys.specs.Poly.{vars}

@@ -1,6 +1,7 @@
-// The term list (document 01, "Polynomials as lists of terms"): its limits, its record, the order check, its variables, n, and the search for a term.
+// The term list (RULES 1): its limits, its record, the order check, its variables, n, and the search for a term.
 ghost use mathlib.Core.Path.{_≡_};
 ghost use Prim.Native.Nat.{_≤_};
+ghost use lib.Bits.{bitAnd};
 ghost use lib.ListN.{length};
 ghost use Rattle.polys.specs.List.{Asc};
 ghost use Rattle.polys.specs.Poly.{vars};
@@ -19,20 +20,6 @@ impl TermList {
     pub const MAX_TERMS: usize = 1024;
     // A variable number is below this.
     pub const MAX_VARS: usize = 64;
-
-    // The zero polynomial: no terms.
-    pub fn zero() -> Self
-        ensures { λ r. ⌜ (r .count ≡ 0) × (r .vars ≡ 0) ⌝ }
-    {
-        Self { count: 0, vars: 0 }
-    }
-
-    // The constant one: the single term 0.
-    pub fn one() -> Self
-        ensures { λ r. ⌜ (r .count ≡ 1) × (r .vars ≡ 0) ⌝ }
-    {
-        Self { count: 1, vars: 0 }
-    }
 
     // The record of a lent list.
     pub fn of(terms: &[u64]) -> Self
@@ -69,7 +56,7 @@ pub fn first_unordered(terms: &[u64]) -> usize
     at
 }
 
-// The variables of a list: those that stand in at least one term.
+// The variables of a list: those that some term holds.
 pub fn variables(terms: &[u64]) -> u64
     ensures { λ r. ⌜ r ≡ vars (now (terms .entry)) ⌝ }
 {
@@ -80,6 +67,15 @@ pub fn variables(terms: &[u64]) -> u64
         all = terms[i] | all;
     }
     all
+}
+
+// The variables that two lists share.
+pub fn shared(a: &[u64], b: &[u64]) -> u64
+    ensures { λ r. ⌜ r ≡ bitAnd (vars (now (a .entry))) (vars (now (b .entry))) ⌝ }
+{
+    let first = TermList::of(a);
+    let second = TermList::of(b);
+    first.vars & second.vars
 }
 
 // One more than the highest variable of a set, 0 for the empty set.

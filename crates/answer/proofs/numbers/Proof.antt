@@ -1,126 +1,58 @@
 -- `answer::numbers` gives the numbers of the table: in each arm the case is known, and the table computes. Assumes nothing.
-use native.Mathlib.Omega.{arith}
 use borrow.Author.Needs.{needs}
-use mathlib.Core.Path.{ap, sym}
+use mathlib.Core.Path.{_≡_, ap, sym, _∙_}
+use Rattle.answer.specs.declared.Answer.{Answer}
+use Rattle.answer.specs.declared.Outcome.{Outcome}
 use Rattle.answer.specs.Table.{numbersOf}
 use Rattle.answer.proofs.numbers.Statement.{statement}
 use Rattle.answer.proofs.numbers.Tie as tie
-use Rattle.answer.proofs.numbers.Reads as reads
-use Rattle.answer.proofs.numbers.Lts as lts
 
-enum-known-outcome : tie.Need-enum-known-outcome
-enum-known-outcome c = search needs
-
-enum-told : tie.Need-enum-told
-enum-told c = search needs
-
-enum-known-outcome-2 : tie.Need-enum-known-outcome-2
-enum-known-outcome-2 c = search needs
-
-enum-known-outcome-3 : tie.Need-enum-known-outcome-3
-enum-known-outcome-3 c = search needs
-
-enum-told-2 : tie.Need-enum-told-2
-enum-told-2 c = search needs
-
-enum-told-3 : tie.Need-enum-told-3
-enum-told-3 c = search needs
-
-enum-known-outcome-4 : tie.Need-enum-known-outcome-4
-enum-known-outcome-4 c = search needs
-
-enum-told-4 : tie.Need-enum-told-4
-enum-told-4 c = search needs
-
-enum-told-5 : tie.Need-enum-told-5
-enum-told-5 c = search needs
-
-enum-told-6 : tie.Need-enum-told-6
-enum-told-6 c = search needs
-
-enum-told-7 : tie.Need-enum-told-7
-enum-told-7 c = search needs
-
-enum-told-8 : tie.Need-enum-told-8
-enum-told-8 c = search needs
-
-enum-told-9 : tie.Need-enum-told-9
-enum-told-9 c = search needs
-
-enum-told-10 : tie.Need-enum-told-10
-enum-told-10 c = search needs
-
-returns : tie.Need-returns
-returns c = ap numbersOf (sym (c .before .outcome .given .1))
-
-returns-2 : tie.Need-returns-2
-returns-2 c = ap numbersOf (sym (c .enum-told .given .1))
-
-returns-3 : tie.Need-returns-3
-returns-3 c = ap numbersOf (sym (c .before .outcome2 .given .1))
-
-returns-4 : tie.Need-returns-4
-returns-4 c = ap numbersOf (sym (c .before .outcome3 .given .1))
-
-returns-5 : tie.Need-returns-5
-returns-5 c = ap numbersOf (sym (c .enum-told2 .given .1))
-
-returns-6 : tie.Need-returns-6
-returns-6 c = ap numbersOf (sym (c .enum-told3 .given .1))
-
-returns-7 : tie.Need-returns-7
-returns-7 c = ap numbersOf (sym (c .before .outcome4 .given .1))
-
-returns-8 : tie.Need-returns-8
-returns-8 c = ap numbersOf (sym (c .enum-told4 .given .1))
-
-returns-9 : tie.Need-returns-9
-returns-9 c = ap numbersOf (sym (c .enum-told5 .given .1))
-
-returns-10 : tie.Need-returns-10
-returns-10 c = ap numbersOf (sym (c .enum-told6 .given .1))
-
-returns-11 : tie.Need-returns-11
-returns-11 c = ap numbersOf (sym (c .enum-told7 .given .1))
-
-returns-12 : tie.Need-returns-12
-returns-12 c = ap numbersOf (sym (c .enum-told8 .given .1))
-
-returns-13 : tie.Need-returns-13
-returns-13 c = ap numbersOf (sym (c .enum-told9 .given .1))
-
-returns-14 : tie.Need-returns-14
-returns-14 c = ap numbersOf (sym (c .enum-told10 .given .1))
+-- what the table says of the case that is known
+told : (o p : Outcome) (a : Answer) → o ≡ p → a ≡ numbersOf p → a ≡ numbersOf o
+told o p a e f = f ∙ ap numbersOf (sym e)
 
 pub numbers-spec : {M : Type 1} → statement M
 numbers-spec =
     tie.close
     (tie.spec
-    enum-known-outcome
-    enum-told
-    enum-known-outcome-2
-    enum-known-outcome-3
-    enum-told-2
-    enum-told-3
-    enum-known-outcome-4
-    enum-told-4
-    enum-told-5
-    enum-told-6
-    enum-told-7
-    enum-told-8
-    enum-told-9
-    enum-told-10
-    returns
-    returns-2
-    returns-3
-    returns-4
-    returns-5
-    returns-6
-    returns-7
-    returns-8
-    returns-9
-    returns-10
-    returns-11
-    returns-12
-    returns-13
-    returns-14)
+    (λ c. search needs)
+    (λ c. search needs)
+    (λ c κs. search needs)
+    (λ c. search needs)
+    (λ c κs. search needs)
+    (λ c. search needs)
+    (λ c κs. search needs)
+    (λ c. search needs)
+    (λ c κs. search needs)
+    (λ c. search needs)
+    (λ c κs. search needs)
+    (λ c. search needs)
+    (λ c κs. search needs)
+    (λ c. search needs)
+    (λ c κs. search needs)
+    (λ c. search needs)
+    (λ c κs. search needs)
+    (λ c. search needs)
+    (λ c κs. search needs)
+    (λ c. search needs)
+    (λ c κs. search needs)
+    (λ c. search needs)
+    (λ c κs. search needs)
+    (λ c. search needs)
+    (λ c κs. search needs)
+    (λ c. search needs)
+    (λ c κs. search needs)
+    (λ c. search told)
+    (λ c. search told)
+    (λ c. search told)
+    (λ c. search told)
+    (λ c. search told)
+    (λ c. search told)
+    (λ c. search told)
+    (λ c. search told)
+    (λ c. search told)
+    (λ c. search told)
+    (λ c. search told)
+    (λ c. search told)
+    (λ c. search told)
+    (λ c. search told))

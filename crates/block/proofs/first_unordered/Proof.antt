@@ -28,9 +28,6 @@ field-requires : tie.Need-field-requires Inv-loop μ-loop
 field-requires c κs =
     let a = c .before .before .args in omega (arith, within (a .n) 0 (a .t) (omega arith), mul-zero (a .n))
 
-add-at : tie.Need-add-at Inv-loop μ-loop
-add-at c = search needs
-
 loop-holds : tie.Need-loop-holds Inv-loop μ-loop
 loop-holds c =
     let a = c .before .before .before .args in
@@ -44,12 +41,6 @@ add-at-2 : tie.Need-add-at-2 Inv-loop μ-loop
 add-at-2 c =
     let a = c .before .before .before .before .before .before .before .args in
     omega (arith, within (a .n) (c .before .before .before .loop .i) (a .t) (omega arith), c .before .before .before .loop .inv .0)
-
-add-i : tie.Need-add-i Inv-loop μ-loop
-add-i c = search needs
-
-loop-less : tie.Need-loop-less Inv-loop μ-loop
-loop-less c = omega arith
 
 loop-again : tie.Need-loop-again Inv-loop μ-loop
 loop-again c =
@@ -83,12 +74,12 @@ first-unordered-spec =
     μ-loop
     returns
     field-requires
-    add-at
+    (λ c. search needs)
     loop-holds
     field-requires-2
     add-at-2
-    add-i
-    loop-less
+    (λ c. search needs)
+    (λ c. search needs)
     loop-again
     returns-2
     returns-3)

@@ -20,96 +20,64 @@ Inv-loop terms n out₀ t header carry₀ at₀ k₀ out carry at k =
 abbrev μ-loop : tie.MeasureT-loop
 μ-loop terms n out₀ t header carry₀ at₀ k₀ out carry at k = t - k
 
-add-header : tie.Need-add-header Inv-loop μ-loop
-add-header c = search needs
-
-mul-header : tie.Need-mul-header Inv-loop μ-loop
-mul-header c = search needs
-
-add-header-2 : tie.Need-add-header-2 Inv-loop μ-loop
-add-header-2 c = search needs
-
-put-requires : tie.Need-put-requires Inv-loop μ-loop
-put-requires c κs = search needs
-
 loop-holds : tie.Need-loop-holds Inv-loop μ-loop
 loop-holds c =
     let a = c .before .before .before .before .before .before .args in
     (refl, packed-header (a .terms .now) (a .n) _ (a .out .now) _ _ (omega arith) (omega arith) (c .before .before .put .ensures), omega arith)
 
-mul-put : tie.Need-mul-put Inv-loop μ-loop
-mul-put c = search needs
+-- the way back to the entry from the loop's head, and what the entry says of the bits of all terms
+abbrev entry : tie.At-loop Inv-loop μ-loop → tie.Start Inv-loop μ-loop
+entry h = h .before .before .before .before .before .before .before
 
-shared-slice-read-put : tie.Need-shared-slice-read-put Inv-loop μ-loop
-shared-slice-read-put c = search needs
+few : (h : tie.At-loop Inv-loop μ-loop) → entry h .args .n * length (entry h .args .terms .now) ≤ 524288
+few h = few-bits (entry h .args .n) (length (entry h .args .terms .now)) (entry h .pre .1) (entry h .pre .2)
 
 put-requires-2 : tie.Need-put-requires-2 Inv-loop μ-loop
 put-requires-2 c κs =
-    let s = c .before .before .before .before .before .before .before .before .before .before in
-    let l = c .before .before .before .loop in (
+    let h = c .before .before .before in
+    let s = entry h in
+    let l = h .loop in (
       l .inv .1 .fits,
       subst (λ (k : ℕ). getD (s .args .terms .now) (l .k) 0 < 2 ^ k) (sym (s .pre .0)) (terms-fit (s .args .terms .now) (l .k)),
       s .pre .1,
-      omega (arith, few-bits (s .args .n) (length (s .args .terms .now)) (s .pre .1) (s .pre .2), within (s .args .n) (l .k) (length (s .args .terms .now)) (omega arith), l .inv .1 .place),
-      omega (arith, s .pre .3, within (s .args .n) (l .k) (length (s .args .terms .now)) (omega arith), l .inv .1 .place, l .inv .1 .same, c .before .before .before .before .before .before .put .ensures .same),
+      omega (arith, few h, within (s .args .n) (l .k) (length (s .args .terms .now)) (omega arith), l .inv .1 .place),
+      omega (arith, s .pre .3, within (s .args .n) (l .k) (length (s .args .terms .now)) (omega arith), l .inv .1 .place, l .inv .1 .same, h .before .before .before .put .ensures .same),
     )
 
 add-at : tie.Need-add-at Inv-loop μ-loop
 add-at c =
-    let s = c .before .before .before .before .before .before .before .before .before .before .before .before .before in
-    let l = c .before .before .before .before .before .before .loop in
-    omega (arith, few-bits (s .args .n) (length (s .args .terms .now)) (s .pre .1) (s .pre .2), within (s .args .n) (l .k) (length (s .args .terms .now)) (omega arith), l .inv .1 .place)
-
-add-k : tie.Need-add-k Inv-loop μ-loop
-add-k c = search needs
-
-loop-less : tie.Need-loop-less Inv-loop μ-loop
-loop-less c = search needs
+    let h = c .before .before .before .before .before .before in
+    let s = entry h in
+    omega (arith, few h, within (s .args .n) (h .loop .k) (length (s .args .terms .now)) (omega arith), h .loop .inv .1 .place)
 
 loop-again : tie.Need-loop-again Inv-loop μ-loop
 loop-again c =
-    let a = c .before .before .before .before .before .before .before .before .before .before .before .before .before .args in
-    let l = c .before .before .before .before .before .before .loop in
+    let h = c .before .before .before .before .before .before in
+    let a = entry h .args in
+    let l = h .loop in
     (refl, packed-more (a .terms .now) (a .n) _ _ (l .out) (l .at) (l .carry) (l .k) _ _ (omega arith) (l .inv .1) (c .before .before .put2 .ensures), omega arith)
 
 -- behind the last term
-at-end : (c : tie.After-loop Inv-loop μ-loop) → c .before .loop .at ≡ 24 + c .before .before .before .before .before .before .before .before .args .n * length (c .before .before .before .before .before .before .before .before .args .terms .now)
-at-end c = c .before .loop .inv .1 .place ∙ ap (λ (i : ℕ). 24 + c .before .before .before .before .before .before .before .before .args .n * i) (omega arith)
-
-mul-put-2 : tie.Need-mul-put-2 Inv-loop μ-loop
-mul-put-2 c = omega (arith, few-bits (c .before .before .before .before .before .before .before .before .before .args .n) (length (c .before .before .before .before .before .before .before .before .before .args .terms .now)) (c .before .before .before .before .before .before .before .before .before .pre .1) (c .before .before .before .before .before .before .before .before .before .pre .2))
-
-add-put : tie.Need-add-put Inv-loop μ-loop
-add-put c = omega (arith, few-bits (c .before .before .before .before .before .before .before .before .before .args .n) (length (c .before .before .before .before .before .before .before .before .before .args .terms .now)) (c .before .before .before .before .before .before .before .before .before .pre .1) (c .before .before .before .before .before .before .before .before .before .pre .2))
-
-add-put-2 : tie.Need-add-put-2 Inv-loop μ-loop
-add-put-2 c = omega (arith, few-bits (c .before .before .before .before .before .before .before .before .before .args .n) (length (c .before .before .before .before .before .before .before .before .before .args .terms .now)) (c .before .before .before .before .before .before .before .before .before .pre .1) (c .before .before .before .before .before .before .before .before .before .pre .2))
-
-mul-put-3 : tie.Need-mul-put-3 Inv-loop μ-loop
-mul-put-3 c = omega (arith, few-bits (c .before .before .before .before .before .before .before .before .before .args .n) (length (c .before .before .before .before .before .before .before .before .before .args .terms .now)) (c .before .before .before .before .before .before .before .before .before .pre .1) (c .before .before .before .before .before .before .before .before .before .pre .2))
-
-sub-put : tie.Need-sub-put Inv-loop μ-loop
-sub-put c = omega (arith, few-bits (c .before .before .before .before .before .before .before .before .before .args .n) (length (c .before .before .before .before .before .before .before .before .before .args .terms .now)) (c .before .before .before .before .before .before .before .before .before .pre .1) (c .before .before .before .before .before .before .before .before .before .pre .2), at-end (c .before))
+at-end : (c : tie.After-loop Inv-loop μ-loop) → c .before .loop .at ≡ 24 + entry (c .before) .args .n * length (entry (c .before) .args .terms .now)
+at-end c = c .before .loop .inv .1 .place ∙ ap (λ (i : ℕ). 24 + entry (c .before) .args .n * i) (omega arith)
 
 put-requires-3 : tie.Need-put-requires-3 Inv-loop μ-loop
 put-requires-3 c κs =
-    let s = c .before .before .before .before .before .before .before .before .before in
-    let l = c .before .before .loop in (
-      l .inv .1 .fits,
+    let h = c .before .before in
+    let inv = h .loop .inv .1 in (
+      inv .fits,
       pow-pos _,
       omega (arith, at-end (c .before)),
-      omega (arith, few-bits (s .args .n) (length (s .args .terms .now)) (s .pre .1) (s .pre .2), at-end (c .before)),
-      omega (arith, at-end (c .before), s .pre .3, l .inv .1 .same, c .before .before .before .before .before .put .ensures .same),
+      omega (arith, few h, at-end (c .before)),
+      omega (arith, at-end (c .before), entry h .pre .3, inv .same, h .before .before .before .put .ensures .same),
     )
-
-same-length : tie.Need-same-length Inv-loop μ-loop
-same-length c = search needs
 
 returns : tie.Need-returns Inv-loop μ-loop
 returns c =
-    let s = c .before .before .before .before .before .before .before .before .before .before .before .before in
-    let l = c .before .before .before .before .before .loop in
-    let header = c .before .before .before .before .before .before .before .before .put .ensures in
+    let h = c .before .before .before .before .before in
+    let s = entry h in
+    let l = h .loop in
+    let header = h .before .before .before .put .ensures in
     over-old (s .args .terms .now) (s .args .out .now) _ _ _ _ header
     (packed-done (s .args .terms .now) (s .args .n) _ (l .out) (l .at) (l .carry) _ _ (s .pre .0) (omega (arith, s .pre .3, header .same)) (λ i. c .slice-known4 .given i .fits)
     (subst (Packed (s .args .terms .now) (s .args .n) _ _ (l .out) (l .at) (l .carry)) {x = l .k} {y = length (s .args .terms .now)} (omega arith) (l .inv .1))
@@ -121,23 +89,23 @@ pack-spec =
     (tie.spec
     Inv-loop
     μ-loop
-    add-header
-    mul-header
-    add-header-2
-    put-requires
+    (λ c. search needs)
+    (λ c. search needs)
+    (λ c. search needs)
+    (λ c κs. search needs)
     loop-holds
-    mul-put
-    shared-slice-read-put
+    (λ c. search needs)
+    (λ c. search needs)
     put-requires-2
     add-at
-    add-k
-    loop-less
+    (λ c. search needs)
+    (λ c. search needs)
     loop-again
-    mul-put-2
-    add-put
-    add-put-2
-    mul-put-3
-    sub-put
+    (λ c. omega (arith, few (c .before .before)))
+    (λ c. omega (arith, few (c .before .before)))
+    (λ c. omega (arith, few (c .before .before)))
+    (λ c. omega (arith, few (c .before .before)))
+    (λ c. omega (arith, few (c .before .before), at-end (c .before)))
     put-requires-3
-    same-length
+    (λ c. search needs)
     returns)

@@ -3,23 +3,19 @@
 use native.Mathlib.Omega.{arith}
 use borrow.Author.Needs.{needs}
 use mathlib.Core.Path.{sym, ap, _∙_}
-use Prim.Native.Nat.{ℕ, _-_}
+use Prim.Native.Nat.{_-_}
 use Rattle.digits.specs.Number.{fields}
 use Rattle.digits.proofs.Bits.{length-fields}
 use Rattle.block.proofs.Terms.{within, field-at}
-use Rattle.terms.specs.Width.{width, widthOf}
-use Rattle.block.proofs.Variables.{width-by-last}
-use Rattle.block.proofs.Terms.{no-terms}
+use Rattle.terms.specs.Width.{width}
+use Rattle.block.proofs.Variables.{width-of-none, width-by-last}
 use Rattle.block.proofs.polynomial_n.Statement.{statement}
 use Rattle.block.proofs.polynomial_n.Tie as tie
 
 returns : tie.Need-returns
 returns c =
     let a = c .before .before .args in
-    sym (ap (λ (k : ℕ). widthOf (fields (a .bytes .now) 24 (a .n) k)) {y = 0} (c .if1 .taken) ∙ no-terms (a .bytes .now) (a .n))
-
-sub-field : tie.Need-sub-field
-sub-field c = search needs
+    sym (width-of-none (fields (a .bytes .now) 24 (a .n) (a .t)) (length-fields (a .bytes .now) 24 (a .n) (a .t) ∙ c .if1 .taken))
 
 mul-field : tie.Need-mul-field
 mul-field c =
@@ -33,9 +29,6 @@ field-requires : tie.Need-field-requires
 field-requires c κs =
     let a = c .before .before .args in omega (arith, within (a .n) (a .t - 1) (a .t) (omega arith))
 
-width-of-requires : tie.Need-width-of-requires
-width-of-requires c κs = search needs
-
 returns-2 : tie.Need-returns-2
 returns-2 c =
     let at-start = c .before .before .before .before in
@@ -47,4 +40,11 @@ returns-2 c =
 pub polynomial-n-spec : {M : Type 1} → statement M
 polynomial-n-spec =
     tie.close
-    (tie.spec returns sub-field mul-field add-field field-requires width-of-requires returns-2)
+    (tie.spec
+    returns
+    (λ c. search needs)
+    mul-field
+    add-field
+    field-requires
+    (λ c κs. search needs)
+    returns-2)

@@ -30,21 +30,12 @@ field-requires : tie.Need-field-requires Inv-loop μ-loop
 field-requires c κs =
     let a = c .before .before .before .before .args in omega (arith, within (a .n) (c .before .loop .i) (a .t) (omega arith), c .before .loop .inv .0)
 
-mul-out : tie.Need-mul-out Inv-loop μ-loop
-mul-out c = search needs
-
 slice-write-out : tie.Need-slice-write-out Inv-loop μ-loop
 slice-write-out c = omega (arith, c .before .before .loop .inv .3)
 
 add-at : tie.Need-add-at Inv-loop μ-loop
 add-at c =
     let a = c .before .before .before .before .before .args in omega (arith, within (a .n) (c .before .before .loop .i) (a .t) (omega arith), c .before .before .loop .inv .0)
-
-add-i : tie.Need-add-i Inv-loop μ-loop
-add-i c = search needs
-
-loop-less : tie.Need-loop-less Inv-loop μ-loop
-loop-less c = omega arith
 
 loop-again : tie.Need-loop-again Inv-loop μ-loop
 loop-again c =
@@ -59,9 +50,6 @@ loop-again c =
           ∙ ap (λ (k : ℕ). take k all ++ drop k (a .out .now)) (sym (add-one (l .i))),
       length-set (l .out) (l .i) (c .field .result) ∙ l .inv .3,
     )
-
-same-length : tie.Need-same-length Inv-loop μ-loop
-same-length c = c .before .loop .inv .3
 
 returns : tie.Need-returns Inv-loop μ-loop
 returns c =
@@ -80,11 +68,11 @@ unpack-spec =
     μ-loop
     loop-holds
     field-requires
-    mul-out
+    (λ c. search needs)
     slice-write-out
     add-at
-    add-i
-    loop-less
+    (λ c. search needs)
+    (λ c. search needs)
     loop-again
-    same-length
+    (λ c. search needs)
     returns)

@@ -1,11 +1,9 @@
+-- `papers::lay_out` selects four times, each behind the last; together that is the layout (Laid). Assumes nothing.
 use native.Mathlib.Omega.{arith}
 use borrow.Author.Needs.{needs}
 use Rattle.papers.proofs.Laid.{four-length, laid-out}
 use Rattle.papers.proofs.lay_out.Statement.{statement}
 use Rattle.papers.proofs.lay_out.Tie as tie
-use Rattle.papers.proofs.lay_out.Reads as reads
-use Rattle.papers.proofs.lay_out.Lts as lts
-use Rattle.papers.proofs.select.Reads as select-reads
 
 select-requires : tie.Need-select-requires
 select-requires c κs =
@@ -22,30 +20,32 @@ select-requires-2 c κs =
 
 select-requires-3 : tie.Need-select-requires-3
 select-requires-3 c κs =
-    let a = c .before .before .before .before .before .before .before .before .before .before .before .args in
+    let back = c .before .before .before .before .before .before .before in
+    let a = back .before .before .before .before .args in
     let total = four-length (a .x) (a .y) (a .list .now) in
     let first = c .before .before .before .before .before .before .before .select in
     let second = c .before .before .before .select2 in
-    omega (arith, total, c .before .before .before .before .before .before .before .before .before .before .before .pre, first .ensures .0, first .kept .1 .1 .1 .0, second .ensures .0, second .kept .1 .1 .1 .0)
+    omega (arith, total, back .before .before .before .before .pre, first .ensures .0, first .kept .1 .1 .1 .0, second .ensures .0, second .kept .1 .1 .1 .0)
 
 select-requires-4 : tie.Need-select-requires-4
 select-requires-4 c κs =
-    let a = c .before .before .before .before .before .before .before .before .before .before .before .before .before .before .before .args in
+    let back = c .before .before .before .before .before .before .before in
+    let start = back .before .before .before .before .before .before .before in
+    let a = start .before .args in
     let total = four-length (a .x) (a .y) (a .list .now) in
-    let first = c .before .before .before .before .before .before .before .before .before .before .before .select in
+    let first = back .before .before .before .before .select in
     let second = c .before .before .before .before .before .before .before .select2 in
     let third = c .before .before .before .select3 in
-    omega (arith, total, c .before .before .before .before .before .before .before .before .before .before .before .before .before .before .before .pre, first .ensures .0, first .kept .1 .1 .1 .0, second .ensures .0, second .kept .1 .1 .1 .0, third .ensures .0, third .kept .1 .1 .1 .0)
-
-same-length : tie.Need-same-length
-same-length c = search needs
+    omega (arith, total, start .before .pre, first .ensures .0, first .kept .1 .1 .1 .0, second .ensures .0, second .kept .1 .1 .1 .0, third .ensures .0, third .kept .1 .1 .1 .0)
 
 returns : tie.Need-returns
 returns c =
-    let a = c .before .before .before .before .before .before .before .before .before .before .before .before .before .before .before .before .before .before .args in
+    let back = c .before .before .before .before .before .before .before in
+    let start = back .before .before .before .before .before .before .before in
+    let a = start .before .before .before .before .args in
     let total = four-length (a .x) (a .y) (a .list .now) in
-    let first = c .before .before .before .before .before .before .before .before .before .before .before .before .before .before .select in
-    let second = c .before .before .before .before .before .before .before .before .before .before .select2 in
+    let first = back .before .before .before .before .before .before .before .select in
+    let second = back .before .before .before .select2 in
     let third = c .before .before .before .before .before .before .select3 in
     let fourth = c .before .before .select4 in
     laid-out (a .x) (a .y) (a .list .now) (a .room .now) (first .last .1 .1 .1 .0) (second .last .1 .1 .1 .0) (third .last .1 .1 .1 .0) (fourth .last .1 .1 .1 .0)
@@ -54,7 +54,7 @@ returns c =
     (omega (
       arith,
       total,
-      c .before .before .before .before .before .before .before .before .before .before .before .before .before .before .before .before .before .before .pre,
+      start .before .before .before .before .pre,
       first .ensures .0,
       first .kept .1 .1 .1 .0,
       second .ensures .0,
@@ -73,5 +73,5 @@ lay-out-spec =
     select-requires-2
     select-requires-3
     select-requires-4
-    same-length
+    (λ c. search needs)
     returns)

@@ -55,9 +55,8 @@ cutting t k =
 
 by-runs-mul-m : (t : ℕ) → by-runs-lts.Need-mul-m (run-reads.Asked, run-reads.Learnt, unions-below t, unions.Post) (by-runs-at t) by-runs.Post
 by-runs-mul-m t c =
-    let k = c in
-    let s = entry t k in
-    omega (arith, run-fits (s .args .a .now) (s .args .b .now) (s .args .d) (k .run .result) (s .args .out .now) (cutting t k))
+    let s = entry t c in
+    omega (arith, run-fits (s .args .a .now) (s .args .b .now) (s .args .d) (c .run .result) (s .args .out .now) (cutting t c))
 
 by-runs-part-unions-end-2 : (t : ℕ) → by-runs-lts.Need-part-unions-end-2 (run-reads.Asked, run-reads.Learnt, unions-below t, unions.Post) (by-runs-at t) by-runs.Post
 by-runs-part-unions-end-2 t c =
@@ -104,7 +103,7 @@ by-runs-unions-requires-2 t c κs =
 
 by-runs-returns : (t : ℕ) → by-runs-lts.Need-returns (run-reads.Asked, run-reads.Learnt, unions-below t, unions.Post) (by-runs-at t) by-runs.Post
 by-runs-returns t c =
-    let k = c .before .before .before .before .before .before .before .before .before .before in
+    let back = c .before .before .before .before .before .before .before in let k = back .before .before .before in
     let s = entry t k in
     both-written (s .args .a .now) (s .args .b .now) (s .args .d) (k .run .result) (s .args .out .now) (cutting t k)
     (c .before .before .before .before .before .before .before .unions .last .1 .1 .0) (c .before .before .before .before .before .before .before .unions .ensures)
@@ -117,7 +116,7 @@ unions-row-requires t c κs =
 
 unions-returns : (t : ℕ) → unions-lts.Need-returns (row-reads.Asked, row-reads.Learnt, by-runs-below t, by-runs.Post) (unions-at t) unions.Post
 unions-returns t c =
-    let s = c .before .before .before .before .before .before .before .before .before in
+    let back = c .before .before .before .before .before .before .before in let s = back .before .before in
     c .before .before .row .ensures ∙ sym (times-of-one (s .args .a .now) (s .args .b .now) (length (s .args .out .now)) (s .pre .1) (c .before .before .before .before .before .if1 .taken))
 
 unions-row-requires-2 : (t : ℕ) → unions-lts.Need-row-requires-2 (row-reads.Asked, row-reads.Learnt, by-runs-below t, by-runs.Post) (unions-at t) unions.Post
@@ -127,17 +126,17 @@ unions-row-requires-2 t c κs =
 
 unions-returns-2 : (t : ℕ) → unions-lts.Need-returns-2 (row-reads.Asked, row-reads.Learnt, by-runs-below t, by-runs.Post) (unions-at t) unions.Post
 unions-returns-2 t c =
-    let s = c .before .before .before .before .before .before .before .before .before .before in
+    let back = c .before .before .before .before .before .before .before in let s = back .before .before .before in
     c .before .before .row2 .ensures ∙ sym (times-comm (s .args .a .now) (s .args .b .now) ∙ times-of-one (s .args .b .now) (s .args .a .now) (length (s .args .out .now)) (ready-swap (s .args .a .now) (s .args .b .now) (length (s .args .out .now)) (s .pre .1)) (c .before .before .before .before .before .if2 .taken))
 
 unions-by-runs-requires-2 : (t : ℕ) → unions-lts.Need-by-runs-requires-2 (row-reads.Asked, row-reads.Learnt, by-runs-below t, by-runs.Post) (unions-at t) unions.Post
 unions-by-runs-requires-2 t c κs =
-    let s = c .before .before .before .before .before .before .before .before .before .before .before in
+    let back = c .before .before .before .before .before .before .before in let s = back .before .before .before .before in
     (omega (arith, s .pre .0), (ready-swap (s .args .a .now) (s .args .b .now) (length (s .args .out .now)) (s .pre .1), (refl, spans-differ (s .args .a .now) (s .args .b .now) (length (s .args .out .now)) (s .pre .1) (c .before .before .before .before .before .before .before .if1 .left) (c .before .if3 .left))))
 
 unions-returns-4 : (t : ℕ) → unions-lts.Need-returns-4 (row-reads.Asked, row-reads.Learnt, by-runs-below t, by-runs.Post) (unions-at t) unions.Post
 unions-returns-4 t c =
-    let s = c .before .before .before .before .before .before .before .before .before .before .before .before .before .before in
+    let back = c .before .before .before .before .before .before .before in let s = back .before .before .before .before .before .before .before in
     c .before .before .by-runs2 .ensures ∙ times-comm (s .args .b .now) (s .args .a .now)
 
 pub +by-runs+unions-spec : {M : Type 1} → statement M
