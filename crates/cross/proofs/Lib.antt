@@ -1,4 +1,5 @@
 -- Why each answer of the four-list test and the cross test is right: one law for each place where they answer or ask on.
 pub mod Uncut
+pub mod Lent
 pub mod Halved
 pub mod Shapes

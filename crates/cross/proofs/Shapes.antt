@@ -14,9 +14,9 @@ use Rattle.ring.proofs.Series.{nought}
 use Rattle.ring.proofs.Value.{value, value-none}
 use Rattle.ring.proofs.Cases.{mirror, Tells, stands-in-both, stands-in-one}
 use Rattle.ring.proofs.Runs.{run-nonzero}
-use Rattle.runs.specs.Read.{shape}
+use Rattle.runs.specs.Read.{shape, Pairing}
 use Rattle.cross.specs.Asked.{Halved, Halves, Joined, Ratios, OneRatio, Whole}
-use Rattle.cross.proofs.Halved.{three-of, Three, joined-if-free, joined-if-divided}
+use Rattle.cross.proofs.Halved.{three-of, Three, joined-if-free, joined-if-divided, halves-exchanged, joined-exchanged}
 
 -- whether a list has a term
 filled : List ℕ → Bool
@@ -205,10 +205,18 @@ mixed-too (t ∷ l) (u ∷ h) (x ∷ m) (y ∷ n) e p q = (omega arith, omega ar
 
 -- ---- what the cross test makes of shapes
 
+module _ {g s t u v s′ t′ u′ v′ : ℕ} (p : Pairing g s t u v) where
+  pub paired-straight : g ≡ 0 → s ≡ s′ → t ≡ t′ → u ≡ u′ → v ≡ v′ → (s′ ≡ u′) × (t′ ≡ v′)
+  paired-straight z es et eu ev = (sym es ∙ p .straight z .0 ∙ eu, sym et ∙ p .straight z .1 ∙ ev)
+
+  pub paired-crosswise : g ≡ 1 → s ≡ s′ → t ≡ t′ → u ≡ u′ → v ≡ v′ → (s′ ≡ v′) × (t′ ≡ u′)
+  paired-crosswise z es et eu ev = (sym es ∙ p .swapped z .0 ∙ ev, sym et ∙ p .swapped z .1 ∙ eu)
+
 module _ (k : ℕ) (a₀ a₁ d₀ d₁ b₀ b₁ c₀ c₁ : List ℕ) (p : Halves k a₀ a₁ d₀ d₁ b₀ b₁ c₀ c₁) where
-  pub differ-if-unpaired : {s t u v : ℕ} → s ≡ shape a₀ a₁ → t ≡ shape d₀ d₁ → u ≡ shape b₀ b₁ → v ≡ shape c₀ c₁ → ¬ Paired s t u v → ¬ Joined k a₀ a₁ d₀ d₁ b₀ b₁ c₀ c₁
-  differ-if-unpaired es et eu ev n j =
-      n
+  pub differ-if-unpaired : {g s t u v : ℕ} → Pairing g s t u v → s ≡ shape a₀ a₁ → t ≡ shape d₀ d₁ → u ≡ shape b₀ b₁ → v ≡ shape c₀ c₁
+      → ¬ (g ≡ 0) → ¬ (g ≡ 1) → ¬ Joined k a₀ a₁ d₀ d₁ b₀ b₁ c₀ c₁
+  differ-if-unpaired g es et eu ev n m j =
+      g .neither n m
       (⊎-elim (λ e. inl (es ∙ e .0 ∙ sym eu, et ∙ e .1 ∙ sym ev)) (λ e. inr (es ∙ e .0 ∙ sym ev, et ∙ e .1 ∙ sym eu))
       (shapes-paired k a₀ a₁ d₀ d₁ b₀ b₁ c₀ c₁ p j))
 
@@ -257,3 +265,21 @@ module _ (k : ℕ) (a₀ a₁ d₀ d₁ b₀ b₁ c₀ c₁ : List ℕ) (p : Hal
     some-c₀ = mixed-too d₀ d₁ c₀ c₁ f nd₀ nd₁ .0;
     some-c₁ = mixed-too d₀ d₁ c₀ c₁ f nd₀ nd₁ .1;
   }
+
+-- ---- the same with A and D, B and C exchanged
+
+module _ (k : ℕ) (a₀ a₁ d₀ d₁ b₀ b₁ c₀ c₁ : List ℕ) (p : Halves k a₀ a₁ d₀ d₁ b₀ b₁ c₀ c₁) (e : shape d₀ d₁ ≡ shape c₀ c₁) where
+  exchanged : Halves k d₀ d₁ a₀ a₁ c₀ c₁ b₀ b₁
+  exchanged = halves-exchanged k a₀ a₁ d₀ d₁ b₀ b₁ c₀ c₁ p
+
+  pub ratios-if-free-other : length d₁ ≡ 0 → Ratios k d₀ c₀ b₁ a₁ b₀ a₀
+  ratios-if-free-other = ratios-if-free k d₀ d₁ a₀ a₁ c₀ c₁ b₀ b₁ exchanged e
+
+  pub opposed-if-free-other : length d₁ ≡ 0 → (r : Bool) → Decides r (OneRatio k d₀ c₀ b₁ a₁ b₀ a₀) → Decides r (Joined k a₀ a₁ d₀ d₁ b₀ b₁ c₀ c₁)
+  opposed-if-free-other z r h = joined-exchanged k a₀ a₁ d₀ d₁ b₀ b₁ c₀ c₁ r (opposed-if-free k d₀ d₁ a₀ a₁ c₀ c₁ b₀ b₁ exchanged e z r h)
+
+  pub ratios-if-divided-other : length d₀ ≡ 0 → Ratios k d₁ c₁ b₁ a₁ b₀ a₀
+  ratios-if-divided-other = ratios-if-divided k d₀ d₁ a₀ a₁ c₀ c₁ b₀ b₁ exchanged e
+
+  pub opposed-if-divided-other : length d₀ ≡ 0 → (r : Bool) → Decides r (OneRatio k d₁ c₁ b₁ a₁ b₀ a₀) → Decides r (Joined k a₀ a₁ d₀ d₁ b₀ b₁ c₀ c₁)
+  opposed-if-divided-other z r h = joined-exchanged k a₀ a₁ d₀ d₁ b₀ b₁ c₀ c₁ r (opposed-if-divided k d₀ d₁ a₀ a₁ c₀ c₁ b₀ b₁ exchanged e z r h)

@@ -1,5 +1,5 @@
 -- The four-list test before lists are cut: empty lists, constant variables, a list that stands on both sides. Leans on ring.
-use mathlib.Core.Path.{_≡_, refl, sym, ap, ap₂, _∙_}
+use mathlib.Core.Path.{_≡_, refl, sym, ap, ap₂, _∙_, subst}
 use mathlib.Core.Bool.{Bool, true, false, true≢false, _&&_}
 use mathlib.Core.List.{List, [], _∷_}
 use mathlib.Core.Logic.{inl, inr}
@@ -46,7 +46,7 @@ same-exchanged k a d b c h =
 
 -- ---- empty lists
 
-value-of-empty : (k : ℕ) (l : List ℕ) → length l ≡ 0 → value k l ≡ nought k
+pub value-of-empty : (k : ℕ) (l : List ℕ) → length l ≡ 0 → value k l ≡ nought k
 value-of-empty k [] e = value-none k
 value-of-empty k (t ∷ l) e = absurd (omega arith)
 
@@ -62,26 +62,29 @@ product-stands : (k : ℕ) (a d : List ℕ) → Run k a → Run k d → ¬ Vanis
 product-stands k a d ra rd n =
     product-nonzero (laws k) (value k a) (value k d) (run-nonzero k a ra (some a (λ e. n (inl e)))) (run-nonzero k d rd (some d (λ e. n (inr e))))
 
-module _ (k : ℕ) (a d b c : List ℕ) (runs : Runs k a d b c) where
+module _ (k : ℕ) (a d b c : List ℕ) (runs : Runs k a d b c) (p : Bool) (asked : Decides p (Vanish a d)) where
   -- one side is zero: the other must be
-  pub same-if-vanishing : Vanish a d → (r : Bool) → Decides r (Vanish b c) → Decides r (SameProducts k a d b c)
-  same-if-vanishing v true h = same-from-equal k a d b c (product-vanishes k a d v ∙ sym (product-vanishes k b c h))
-  same-if-vanishing v false h = λ s. product-stands k b c (runs .run-b) (runs .run-c) h (sym (equal-from-same k a d b c s) ∙ product-vanishes k a d v)
+  pub same-if-vanishing : p ≡ true → (r : Bool) → Decides r (Vanish b c) → Decides r (SameProducts k a d b c)
+  same-if-vanishing e true h = same-from-equal k a d b c (product-vanishes k a d (decided-yes p e asked) ∙ sym (product-vanishes k b c h))
+  same-if-vanishing e false h = λ s. product-stands k b c (runs .run-b) (runs .run-c) h (sym (equal-from-same k a d b c s) ∙ product-vanishes k a d (decided-yes p e asked))
 
-  pub differ-if-one-vanishes : ¬ Vanish a d → Vanish b c → ¬ SameProducts k a d b c
-  differ-if-one-vanishes n v s = product-stands k a d (runs .run-a) (runs .run-d) n (equal-from-same k a d b c s ∙ product-vanishes k b c v)
+  module _ (some-ad : p ≡ false) (q : Bool) (asked-too : Decides q (Vanish b c)) where
+    pub differ-if-one-vanishes : q ≡ true → ¬ SameProducts k a d b c
+    differ-if-one-vanishes e s =
+        product-stands k a d (runs .run-a) (runs .run-d) (decided-no p some-ad asked) (equal-from-same k a d b c s ∙ product-vanishes k b c (decided-yes q e asked-too))
 
-  pub four-runs : ¬ Vanish a d → ¬ Vanish b c → Four k a d b c
-  four-runs n m = record {
-    run-a = runs .run-a;
-    run-d = runs .run-d;
-    run-b = runs .run-b;
-    run-c = runs .run-c;
-    some-a = some a (λ e. n (inl e));
-    some-d = some d (λ e. n (inr e));
-    some-b = some b (λ e. m (inl e));
-    some-c = some c (λ e. m (inr e));
-  }
+    pub four-runs : q ≡ false → Four k a d b c
+    four-runs some-bc =
+        let n = decided-no p some-ad asked in let m = decided-no q some-bc asked-too in record {
+          run-a = runs .run-a;
+          run-d = runs .run-d;
+          run-b = runs .run-b;
+          run-c = runs .run-c;
+          some-a = some a (λ e. n (inl e));
+          some-d = some d (λ e. n (inr e));
+          some-b = some b (λ e. m (inl e));
+          some-c = some c (λ e. m (inr e));
+        }
 
 -- ---- constant variables
 
@@ -89,21 +92,31 @@ no-bit : (b : Bool) → ¬ (b ≡ true) → b ≡ false
 no-bit true n = absurd (n refl)
 no-bit false n = refl
 
-module _ (k w : ℕ) (a d b c : List ℕ) (four : Four k a d b c) (left : Left (varying a d b c) k w) where
-  pub differ-if-uneven : Within (uneven a d b c) w k → ¬ SameProducts k a d b c
-  differ-if-uneven (i, wi, ik, e) s = skip-refused a d b c k w i wi ik four (left .none) e (equal-from-same k a d b c s)
+-- w of k variables are left, and the answer s says whether one of the others is uneven
+pub record Skips (k w : ℕ) (a d b c : List ℕ) (s : Bool) : Type 0 where
+  pub four : Four k a d b c
+  pub left : Left (varying a d b c) k w
+  pub told : Decides s (Within (uneven a d b c) w k)
 
-  skipped : ¬ Within (uneven a d b c) w k → Skipped a d b c k w
-  skipped n = skip a d b c k w (left .within) four (left .none) (λ i wi ik. no-bit (bit (uneven a d b c) i) (λ e. n (i, wi, ik, e)))
+module _ {k w : ℕ} {a d b c : List ℕ} {s : Bool} (x : Skips k w a d b c s) where
+  pub differ-if-uneven : s ≡ true → ¬ SameProducts k a d b c
+  differ-if-uneven e h =
+      let (i, wi, ik, held) = decided-yes s e (x .told) in
+      skip-refused a d b c k w i wi ik (x .four) (x .left .none) held (equal-from-same k a d b c h)
 
-  pub four-left : ¬ Within (uneven a d b c) w k → Four w a d b c
-  four-left n = skipped n .four
+  skipped : s ≡ false → Skipped a d b c k w
+  skipped e =
+      skip a d b c k w (x .left .within) (x .four) (x .left .none)
+      (λ i wi ik. no-bit (bit (uneven a d b c) i) (λ held. decided-no s e (x .told) (i, wi, ik, held)))
 
-  pub same-if-left : ¬ Within (uneven a d b c) w k → (r : Bool) → Decides r (SameProducts w a d b c) → Decides r (SameProducts k a d b c)
-  same-if-left n r =
+  pub four-left : s ≡ false → Four w a d b c
+  four-left e = skipped e .four
+
+  pub same-if-left : s ≡ false → (r : Bool) → Decides r (SameProducts w a d b c) → Decides r (SameProducts k a d b c)
+  same-if-left e r =
       decides-by r
-      (λ s. same-from-equal k a d b c (skipped n .up (equal-from-same w a d b c s)))
-      (λ s. same-from-equal w a d b c (skipped n .down (equal-from-same k a d b c s)))
+      (λ h. same-from-equal k a d b c (skipped e .up (equal-from-same w a d b c h)))
+      (λ h. same-from-equal w a d b c (skipped e .down (equal-from-same k a d b c h)))
 
 -- ---- no variable is left
 
@@ -127,14 +140,16 @@ same-if-none-left (suc k) a d b c e f = absurd (omega arith)
 -- ---- a list on both sides
 
 module _ (k : ℕ) (a d b c : List ℕ) (f : Four k a d b c) where
-  pub same-if-alike : lows k a ≡ lows k b → (r : Bool) → Decides r (lows k d ≡ lows k c) → Decides r (SameProducts k a d b c)
-  same-if-alike e r =
+  pub same-if-alike : (q : Bool) → Decides q (lows k a ≡ lows k b) → q ≡ true → (r : Bool) → Decides r (lows k d ≡ lows k c) → Decides r (SameProducts k a d b c)
+  same-if-alike q h y r =
+      let e = decided-yes q y h in
       decides-by r
       (λ g. same-from-equal k a d b c (equal-if-alike k a d b c e g))
       (λ s. alike-if-equal k a d b c (f .run-a) (f .some-a) (f .run-d) (f .run-c) e (equal-from-same k a d b c s))
 
-  pub same-if-alike-other : lows k a ≡ lows k c → (r : Bool) → Decides r (lows k d ≡ lows k b) → Decides r (SameProducts k a d b c)
-  same-if-alike-other e r =
+  pub same-if-alike-other : (q : Bool) → Decides q (lows k a ≡ lows k c) → q ≡ true → (r : Bool) → Decides r (lows k d ≡ lows k b) → Decides r (SameProducts k a d b c)
+  same-if-alike-other q h y r =
+      let e = decided-yes q y h in
       decides-by r
       (λ g. same-swapped k a d b c (same-from-equal k a d c b (equal-if-alike k a d c b e g)))
       (λ s. alike-if-equal k a d c b (f .run-a) (f .some-a) (f .run-d) (f .run-b) e (equal-from-same k a d c b (same-swapped k a d c b s)))
@@ -179,6 +194,13 @@ module _ (k : ℕ) (a d b c : List ℕ) (f : Four k a d b c) where
 
 -- ---- the highest variable that is left
 
-pub one-below : (k : ℕ) → ¬ (k ≡ 0) → suc (k - 1) ≡ k
+one-below : (k : ℕ) → ¬ (k ≡ 0) → suc (k - 1) ≡ k
 one-below zero n = absurd (n refl)
 one-below (suc k) n = omega arith
+
+module _ (k : ℕ) (a d b c : List ℕ) (n : ¬ (k ≡ 0)) where
+  pub four-below : Four k a d b c → Four (suc (k - 1)) a d b c
+  four-below f = subst (λ (j : ℕ). Four j a d b c) (sym (one-below k n)) f
+
+  pub same-if-below : (r : Bool) → Decides r (SameProducts (suc (k - 1)) a d b c) → Decides r (SameProducts k a d b c)
+  same-if-below r h = subst (λ (j : ℕ). Decides r (SameProducts j a d b c)) (one-below k n) h

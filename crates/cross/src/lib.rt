@@ -1,5 +1,6 @@
-// Document 01, "Deciding AD = BC": the four-list test calls the cross test and it calls the four-list test, and the number of
-// variables left falls. Lists are handed on as parts of the lent lists; only the bits below k are read, nothing is copied.
+// Whether AD = BC (RULES 3.3), by two tests that lead to one another: where `same` sees no answer, `cross` cuts the four lists in
+// halves and asks `same` about these, with fewer variables to go. What is passed on is a slice of a lent list, never a copy, and of
+// its terms only the bits below k are looked at.
 // Which questions are asked, and in which order, decides between milliseconds and minutes: the smaller equation comes first,
 // equal ratios are asked along a tree from the smallest, and constant variables are skipped at once by a mask.
 ghost use mathlib.Core.Path.{_≡_};

@@ -1,5 +1,5 @@
 -- What the steps of growing a part promise each other. Nothing here has to be believed: the promise of split speaks of
--- document 01's definitions alone, and these records only carry its proof from function to function.
+-- the definitions of polys alone, and these records only carry its proof from function to function.
 use Prim.Native.Nat.{ℕ, _+_, _*_, _≤_, _<_}
 use mathlib.Core.Path.{_≡_}
 use mathlib.Core.Bool.{Bool, true, false}

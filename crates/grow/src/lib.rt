@@ -1,6 +1,6 @@
 // Growing a part: from one variable to the variables of its part (a bad pair of terms says which variables belong together).
 ghost use mathlib.Core.Path.{_≡_};
-ghost use Prim.Native.Nat.{_+_, _*_, _≤_, _<_};
+ghost use Prim.Native.Nat.{_+_, _-_, _*_, _≤_, _<_};
 ghost use mathlib.Core.Bool.{true};
 ghost use lib.ListN.{length, take};
 ghost use Rattle.polys.specs.List.{Asc};
@@ -162,12 +162,12 @@ fn tied(f: &[u64], x: u64, with_x: usize, b: u64) -> bool
     true
 }
 
-// The lowest variable of a set, if it has one.
+// The lowest variable of a set; the empty set has none.
 fn lowest(set: u64) -> u64
-    ensures { λ r. ⌜ bitAnd r set ≡ r ⌝ }
+    ensures { λ r. ⌜ r ≡ without (set - 1) set ⌝ }
 {
     if set == 0 {
-        return 0;
+        return set;
     }
     set ^ (set & (set - 1))
 }
@@ -316,7 +316,7 @@ pub fn part_of_lowest(work: &mut [u64], n: usize, all: u64) -> Found
     ensures { λ r. ⌜ (take n (now (work .exit)) ≡ take n (now (work .entry))) × PartOfLowest (take n (now (work .entry))) (r .y)
         × Stands (take n (now (work .entry))) n (r .y) (now (work .exit)) (r .part) (r .rest) ⌝ }
 {
-    let mut y = all ^ (all & (all - 1));
+    let mut y = lowest(all);
     loop {
         let made = one_step(work, n, y, all);
         match made {

@@ -1,3 +1,4 @@
+-- `grow::count_holding` counts the terms passed that hold the set. Assumes nothing.
 use native.Mathlib.Omega.{arith}
 use borrow.Author.Needs.{needs}
 use Prim.Native.Nat.{_+_, _≤_}
@@ -7,8 +8,6 @@ use Rattle.splitting.proofs.Holding.{having}
 use Rattle.grow.proofs.Counting.{none-at-end, all-from-start, one-more-holds, one-more-passes}
 use Rattle.grow.proofs.count_holding.Statement.{statement}
 use Rattle.grow.proofs.count_holding.Tie as tie
-use Rattle.grow.proofs.count_holding.Reads as reads
-use Rattle.grow.proofs.count_holding.Lts as lts
 
 abbrev Inv-loop : tie.InvT-loop
 Inv-loop f set k₀ i₀ k i = (i ≤ length f) × (k + i ≤ length f) × (k ≡ length (having set (drop i f)))
@@ -19,29 +18,11 @@ abbrev μ-loop : tie.MeasureT-loop
 loop-holds : tie.Need-loop-holds Inv-loop μ-loop
 loop-holds c = (search needs, search needs, none-at-end (c .args .set) (c .args .f .now))
 
-sub-i : tie.Need-sub-i Inv-loop μ-loop
-sub-i c = search needs
-
-mul-if1 : tie.Need-mul-if1 Inv-loop μ-loop
-mul-if1 c = search needs
-
-shared-slice-read-if1 : tie.Need-shared-slice-read-if1 Inv-loop μ-loop
-shared-slice-read-if1 c = search needs
-
-add-k : tie.Need-add-k Inv-loop μ-loop
-add-k c = search needs
-
-loop-less : tie.Need-loop-less Inv-loop μ-loop
-loop-less c = search needs
-
 loop-again : tie.Need-loop-again Inv-loop μ-loop
 loop-again c =
     let a = c .before .before .before .before .args in
     let here = c .before .before .before .loop in
     (search needs, search needs, one-more-holds (a .set) (a .f .now) (here .i) (here .k) (omega arith) (omega arith) (here .inv .2) (c .if1 .taken))
-
-loop-less-2 : tie.Need-loop-less-2 Inv-loop μ-loop
-loop-less-2 c = search needs
 
 loop-again-2 : tie.Need-loop-again-2 Inv-loop μ-loop
 loop-again-2 c =
@@ -62,12 +43,12 @@ count-holding-spec =
     Inv-loop
     μ-loop
     loop-holds
-    sub-i
-    mul-if1
-    shared-slice-read-if1
-    add-k
-    loop-less
+    (λ c. search needs)
+    (λ c. search needs)
+    (λ c. search needs)
+    (λ c. search needs)
+    (λ c. search needs)
     loop-again
-    loop-less-2
+    (λ c. search needs)
     loop-again-2
     returns)

@@ -1,3 +1,4 @@
+-- `grow::counted` asks the counts of each variable left. The invariant: what was found belongs to y (Counting). Assumes nothing.
 use native.Mathlib.Omega.{arith}
 use borrow.Author.Needs.{needs}
 use Prim.Native.Nat.{_-_, _≤_}
@@ -6,14 +7,9 @@ use lib.Bits.{bitAnd}
 use lib.ListN.{length}
 use Rattle.splitting.proofs.Holding.{having}
 use Rattle.grow.specs.Steps.{Belongs}
-use Rattle.grow.proofs.Counting.{belongs-none, belongs-more, left-inside, left-falls, all-inside}
+use Rattle.grow.proofs.Counting.{lowest-inside, belongs-none, belongs-more, left-inside, left-falls, all-inside}
 use Rattle.grow.proofs.counted.Statement.{statement}
 use Rattle.grow.proofs.counted.Tie as tie
-use Rattle.grow.proofs.counted.Reads as reads
-use Rattle.grow.proofs.counted.Lts as lts
-use Rattle.grow.proofs.count_holding.Reads as count-holding-reads
-use Rattle.grow.proofs.lowest.Reads as lowest-reads
-use Rattle.grow.proofs.tied.Reads as tied-reads
 
 abbrev Inv-loop : tie.InvT-loop
 Inv-loop f y w x with-x more₀ left₀ more left =
@@ -28,26 +24,17 @@ returns c =
     let a = start .args in
     belongs-none (a .f .now) (a .y)
 
-lowest-requires : tie.Need-lowest-requires Inv-loop μ-loop
-lowest-requires c κs = search needs
-
 returns-2 : tie.Need-returns-2 Inv-loop μ-loop
 returns-2 c =
     let start = c .before .before .before .before in
     let a = start .args in
     belongs-none (a .f .now) (a .y)
 
-count-holding-requires : tie.Need-count-holding-requires Inv-loop μ-loop
-count-holding-requires c κs = search needs
-
 loop-holds : tie.Need-loop-holds Inv-loop μ-loop
 loop-holds c =
     let start = c .before .before .before .before .before in
     let a = start .args in
-    (omega arith, c .before .before .lowest .ensures, c .count-holding .ensures, all-inside (a .w), belongs-none (a .f .now) (a .y))
-
-sub-rest : tie.Need-sub-rest Inv-loop μ-loop
-sub-rest c = search needs
+    (omega arith, rw (c .before .before .lowest .ensures) (lowest-inside (a .y)), c .count-holding .ensures, all-inside (a .w), belongs-none (a .f .now) (a .y))
 
 tied-requires : tie.Need-tied-requires Inv-loop μ-loop
 tied-requires c κs =
@@ -59,7 +46,8 @@ loop-less c = left-falls (c .before .before .before .loop .left) (c .before .bef
 
 loop-again : tie.Need-loop-again Inv-loop μ-loop
 loop-again c =
-    let start = c .before .before .before .before .before .before .before .before .before in
+    let back = c .before .before .before .before .before .before .before in
+    let start = back .before .before in
     let a = start .args in
     let here = c .before .before .before .loop in (
       here .inv .0,
@@ -75,7 +63,8 @@ loop-less-2 c = left-falls (c .before .before .before .loop .left) (c .before .b
 
 loop-again-2 : tie.Need-loop-again-2 Inv-loop μ-loop
 loop-again-2 c =
-    let start = c .before .before .before .before .before .before .before .before .before in
+    let back = c .before .before .before .before .before .before .before in
+    let start = back .before .before in
     let a = start .args in
     let here = c .before .before .before .loop in (
       here .inv .0,
@@ -95,11 +84,11 @@ counted-spec =
     Inv-loop
     μ-loop
     returns
-    lowest-requires
+    (λ c κs. search needs)
     returns-2
-    count-holding-requires
+    (λ c κs. search needs)
     loop-holds
-    sub-rest
+    (λ c. search needs)
     tied-requires
     loop-less
     loop-again

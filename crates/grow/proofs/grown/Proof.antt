@@ -1,14 +1,8 @@
-use native.Mathlib.Omega.{arith}
+-- `grow::grown` takes what a bad pair brings at its least (Growing). Assumes nothing.
 use borrow.Author.Needs.{needs}
 use Rattle.grow.proofs.Growing.{least-grows}
 use Rattle.grow.proofs.grown.Statement.{statement}
 use Rattle.grow.proofs.grown.Tie as tie
-use Rattle.grow.proofs.grown.Reads as reads
-use Rattle.grow.proofs.grown.Lts as lts
-use Rattle.grow.proofs.least.Reads as least-reads
-
-least-requires : tie.Need-least-requires
-least-requires c κs = search needs
 
 returns : tie.Need-returns
 returns c =
@@ -18,4 +12,4 @@ returns c =
     least-grows (a .f .now) (a .y) (a .w) (start .pre .1) (a .s) (a .t) (c .least .result) (pair .0) (pair .1) (pair .2) (c .least .ensures)
 
 pub grown-spec : {M : Type 1} → statement M
-grown-spec = tie.close (tie.spec least-requires returns)
+grown-spec = tie.close (tie.spec (λ c κs. search needs) returns)

@@ -1,17 +1,9 @@
-use native.Mathlib.Omega.{arith}
+-- `grow::last_test` decides by the counts or by the unions (Deciding). Assumes nothing.
 use borrow.Author.Needs.{needs}
 use Rattle.grow.proofs.Counting.{belongs-grows}
 use Rattle.grow.proofs.Deciding.{decided-by-counts, decided-by-unions, decided-by-missing}
 use Rattle.grow.proofs.last_test.Statement.{statement}
 use Rattle.grow.proofs.last_test.Tie as tie
-use Rattle.grow.proofs.last_test.Reads as reads
-use Rattle.grow.proofs.last_test.Lts as lts
-use Rattle.grow.proofs.counted.Reads as counted-reads
-use Rattle.grow.proofs.multiply_to.Reads as multiply-to-reads
-use Rattle.grow.proofs.unions.Reads as unions-reads
-
-multiply-to-requires : tie.Need-multiply-to-requires
-multiply-to-requires c κs = search needs
 
 returns : tie.Need-returns
 returns c =
@@ -19,30 +11,16 @@ returns c =
     let a = start .args in
     decided-by-counts (a .f .now) (a .y) (a .w) (a .inner .now) (a .outer .now) (start .pre .0) (start .pre .1) (c .before .multiply-to .ensures (c .if1 .taken))
 
-counted-requires : tie.Need-counted-requires
-counted-requires c κs = search needs
-
 returns-2 : tie.Need-returns-2
 returns-2 c =
     let start = c .before .before .before .before .before .before .before in
     let a = start .args in
     belongs-grows (a .f .now) (a .y) (c .before .counted .result) (c .before .counted .ensures) (c .if2 .taken)
 
-shared-slice-read-first : tie.Need-shared-slice-read-first
-shared-slice-read-first c = search needs
-
-unions-requires : tie.Need-unions-requires
-unions-requires c κs = search needs
-
-enum-known-found : tie.Need-enum-known-found
-enum-known-found c = search needs
-
-enum-told : tie.Need-enum-told
-enum-told c = search needs
-
 returns-3 : tie.Need-returns-3
 returns-3 c =
-    let start = c .before .before .before .before .before .before .before .before .before .before .before .before in
+    let back = c .before .before .before .before .before .before .before in
+    let start = back .before .before .before .before .before in
     let a = start .args in
     let asked = c .before .before .before .unions in
     let found = c .before .found in
@@ -50,7 +28,8 @@ returns-3 c =
 
 returns-4 : tie.Need-returns-4
 returns-4 c =
-    let start = c .before .before .before .before .before .before .before .before .before .before .before in
+    let back = c .before .before .before .before .before .before .before in
+    let start = back .before .before .before .before in
     let a = start .args in
     let asked = c .before .before .unions in
     decided-by-unions (a .f .now) (a .y) (a .w) (a .inner .now) (a .outer .now) (start .pre .0) (asked .result) (start .pre .1) (asked .ensures) (c .enum-told .given .1)
@@ -59,13 +38,13 @@ pub last-test-spec : {M : Type 1} → statement M
 last-test-spec =
     tie.close
     (tie.spec
-    multiply-to-requires
+    (λ c κs. search needs)
     returns
-    counted-requires
+    (λ c κs. search needs)
     returns-2
-    shared-slice-read-first
-    unions-requires
-    enum-known-found
-    enum-told
+    (λ c. search needs)
+    (λ c κs. search needs)
+    (λ c. search needs)
+    (λ c. search needs)
     returns-3
     returns-4)

@@ -1,30 +1,13 @@
-use native.Mathlib.Omega.{arith}
+-- `grow::lay_out` picks twice behind the list; what the two picks leave is laid out (LaidOut). Assumes nothing.
 use borrow.Author.Needs.{needs}
 use Rattle.grow.proofs.LaidOut.{laid-by-picks}
 use Rattle.grow.proofs.lay_out.Statement.{statement}
 use Rattle.grow.proofs.lay_out.Tie as tie
-use Rattle.grow.proofs.lay_out.Reads as reads
-use Rattle.grow.proofs.lay_out.Lts as lts
-use Rattle.grow.proofs.pick_terms.Reads as pick-terms-reads
-
-slice-read-first : tie.Need-slice-read-first
-slice-read-first c = search needs
-
-pick-terms-requires : tie.Need-pick-terms-requires
-pick-terms-requires c κs = search needs
-
-add-pick-terms : tie.Need-add-pick-terms
-add-pick-terms c = search needs
-
-pick-terms-requires-2 : tie.Need-pick-terms-requires-2
-pick-terms-requires-2 c κs = search needs
-
-same-length : tie.Need-same-length
-same-length c = search needs
 
 returns : tie.Need-returns
 returns c =
-    let start = c .before .before .before .before .before .before .before .before .before .before in
+    let back = c .before .before .before .before .before .before .before in
+    let start = back .before .before .before in
     let a = start .args in
     let one = c .before .before .before .before .before .before .pick-terms in
     let two = c .before .before .pick-terms2 in
@@ -35,9 +18,9 @@ pub lay-out-spec : {M : Type 1} → statement M
 lay-out-spec =
     tie.close
     (tie.spec
-    slice-read-first
-    pick-terms-requires
-    add-pick-terms
-    pick-terms-requires-2
-    same-length
+    (λ c. search needs)
+    (λ c κs. search needs)
+    (λ c. search needs)
+    (λ c κs. search needs)
+    (λ c. search needs)
     returns)

@@ -1,3 +1,4 @@
+-- `grow::least` goes through the terms. The invariant: the least difference among those passed. Assumes nothing.
 use native.Mathlib.Omega.{arith}
 use borrow.Author.Needs.{needs}
 use Prim.Native.Nat.{_≤_, _-_}
@@ -8,9 +9,6 @@ use Rattle.grow.specs.Steps.{Least}
 use Rattle.grow.proofs.Differences.{least-of-none, least-one-more}
 use Rattle.grow.proofs.least.Statement.{statement}
 use Rattle.grow.proofs.least.Tie as tie
-use Rattle.grow.proofs.least.Reads as reads
-use Rattle.grow.proofs.least.Lts as lts
-use Rattle.grow.proofs.smaller.Reads as smaller-reads
 
 abbrev Inv-loop : tie.InvT-loop
 Inv-loop f y w t start rest d₀ i₀ d i =
@@ -23,21 +21,6 @@ loop-holds : tie.Need-loop-holds Inv-loop μ-loop
 loop-holds c =
     let a = c .before .args in
     (search needs, search needs, least-of-none (a .f .now) (a .y) (a .w) (a .t) (a .start))
-
-mul-u : tie.Need-mul-u Inv-loop μ-loop
-mul-u c = search needs
-
-shared-slice-read-u : tie.Need-shared-slice-read-u Inv-loop μ-loop
-shared-slice-read-u c = search needs
-
-smaller-requires : tie.Need-smaller-requires Inv-loop μ-loop
-smaller-requires c κs = search needs
-
-add-i : tie.Need-add-i Inv-loop μ-loop
-add-i c = search needs
-
-loop-less : tie.Need-loop-less Inv-loop μ-loop
-loop-less c = search needs
 
 loop-again : tie.Need-loop-again Inv-loop μ-loop
 loop-again c =
@@ -62,10 +45,10 @@ least-spec =
     Inv-loop
     μ-loop
     loop-holds
-    mul-u
-    shared-slice-read-u
-    smaller-requires
-    add-i
-    loop-less
+    (λ c. search needs)
+    (λ c. search needs)
+    (λ c κs. search needs)
+    (λ c. search needs)
+    (λ c. search needs)
     loop-again
     returns)

@@ -1,19 +1,13 @@
-use native.Mathlib.Omega.{arith}
+-- `grow::lowest` takes the lowest bit of a mask. Assumes nothing.
 use borrow.Author.Needs.{needs}
-use Rattle.grow.proofs.Counting.{lowest-inside}
+use Prim.Native.Nat.{ℕ, _-_}
+use mathlib.Core.Path.{_≡_, refl, subst, sym}
+use Rattle.masks.specs.Bit.{without}
 use Rattle.grow.proofs.lowest.Statement.{statement}
 use Rattle.grow.proofs.lowest.Tie as tie
-use Rattle.grow.proofs.lowest.Reads as reads
-use Rattle.grow.proofs.lowest.Lts as lts
 
-returns : tie.Need-returns
-returns c = search needs
-
-sub-result : tie.Need-sub-result
-sub-result c = search needs
-
-returns-2 : tie.Need-returns-2
-returns-2 c = lowest-inside (c .before .args .set)
+of-none : (m : ℕ) → m ≡ 0 → m ≡ without (m - 1) m
+of-none m e = rw e
 
 pub lowest-spec : {M : Type 1} → statement M
-lowest-spec = tie.close (tie.spec returns sub-result returns-2)
+lowest-spec = tie.close (tie.spec (λ c. search of-none) (λ c. search needs) (λ c. refl))

@@ -1,3 +1,4 @@
+-- `grow::multiply_to` divides, so that no product leaves a word. Assumes nothing.
 use native.Mathlib.Omega.{arith}
 use borrow.Author.Needs.{needs}
 use Prim.Native.Nat.{ℕ, _*_, _/_}
@@ -7,20 +8,12 @@ use mathlib.Core.Bool.{true≢false}
 use lib.Dec.{T, eqb→eq}
 use Rattle.grow.proofs.multiply_to.Statement.{statement}
 use Rattle.grow.proofs.multiply_to.Tie as tie
-use Rattle.grow.proofs.multiply_to.Reads as reads
-use Rattle.grow.proofs.multiply_to.Lts as lts
 
 returns : tie.Need-returns
 returns c = λ e. absurd (true≢false (sym e))
 
-rem-if2 : tie.Need-rem-if2
-rem-if2 c = search needs
-
 returns-2 : tie.Need-returns-2
 returns-2 c = λ e. absurd (true≢false (sym e))
-
-div-result : tie.Need-div-result
-div-result c = search needs
 
 returns-3 : tie.Need-returns-3
 returns-3 c = λ e.
@@ -29,4 +22,4 @@ returns-3 c = λ e.
     ∙ omega (arith, div-add-mod (a .n) (a .part), c .if2 .left)
 
 pub multiply-to-spec : {M : Type 1} → statement M
-multiply-to-spec = tie.close (tie.spec returns rem-if2 returns-2 div-result returns-3)
+multiply-to-spec = tie.close (tie.spec returns (λ c. search needs) returns-2 (λ c. search needs) returns-3)

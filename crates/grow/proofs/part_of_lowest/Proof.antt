@@ -1,3 +1,4 @@
+-- `grow::part_of_lowest` takes steps until the part is whole. The invariant: y is still growing within the part (Rounds). Assumes nothing.
 use native.Mathlib.Omega.{arith}
 use borrow.Author.Needs.{needs}
 use Prim.Native.Nat.{ℕ, _-_}
@@ -7,9 +8,6 @@ use lib.ListN.{length, take}
 use Rattle.splitting.proofs.Growing.{Growing}
 use Rattle.grow.proofs.part_of_lowest.Statement.{statement}
 use Rattle.grow.proofs.part_of_lowest.Tie as tie
-use Rattle.grow.proofs.part_of_lowest.Reads as reads
-use Rattle.grow.proofs.part_of_lowest.Lts as lts
-use Rattle.grow.proofs.one_step.Reads as one-step-reads
 
 abbrev Inv-loop : tie.InvT-loop
 Inv-loop work₀ n all y₀ work y =
@@ -18,43 +16,33 @@ Inv-loop work₀ n all y₀ work y =
 abbrev μ-loop : tie.MeasureT-loop
 μ-loop work₀ n all y₀ work y = all - y
 
-sub-y : tie.Need-sub-y Inv-loop μ-loop
-sub-y c = search needs
-
 loop-holds : tie.Need-loop-holds Inv-loop μ-loop
 loop-holds c =
-    let start = c .before in
+    let start = c .before .before in
     let a = start .args in
-    (refl, refl, first-round (a .work .now) (a .n) (a .all) (start .pre .0) (start .pre .1))
+    (refl, refl, rw (c .lowest .ensures) (first-round (a .work .now) (a .n) (a .all) (start .pre .0) (start .pre .1)))
 
 one-step-requires : tie.Need-one-step-requires Inv-loop μ-loop
 one-step-requires c κs =
-    let start = c .before .before .before in
+    let start = c .before .before .before .before in
     let a = start .args in
     let here = c .before .loop in
     ready-for-step (a .work .now) (here .work) (a .n) (a .all) (here .y) (here .inv .2 .0) (start .pre .0) (here .inv .0) (here .inv .1) (here .inv .2 .1)
 
-enum-known-made : tie.Need-enum-known-made Inv-loop μ-loop
-enum-known-made c = search needs
-
-same-length : tie.Need-same-length Inv-loop μ-loop
-same-length c = search needs
-
 returns : tie.Need-returns Inv-loop μ-loop
 returns c =
-    let start = c .before .before .before .before .before .before .before .before .before in
+    let back = c .before .before .before .before .before .before .before in
+    let start = back .before .before .before in
     let a = start .args in
     let here = c .before .before .before .before .before .before .before .loop in
     let made = c .before .before .before .before .before .one-step in
     ends-whole (a .work .now) (here .work) (a .n) (a .all) (here .y) (here .inv .2 .0) (start .pre .0) (here .inv .0) (here .inv .1) (here .inv .2 .1)
     (made .last .0) (made .result) (made .ensures) (c .before .made .given .0 .0) (c .before .made .given .0 .1 .0) (c .before .made .given .1)
 
-enum-known-made-2 : tie.Need-enum-known-made-2 Inv-loop μ-loop
-enum-known-made-2 c = search needs
-
 loop-less : tie.Need-loop-less Inv-loop μ-loop
 loop-less c =
-    let start = c .before .before .before .before .before .before .before .before .before in
+    let back = c .before .before .before .before .before .before .before in
+    let start = back .before .before .before in
     let a = start .args in
     let here = c .before .before .before .before .before .before .before .loop in
     let made = c .before .before .before .before .before .one-step in
@@ -66,7 +54,8 @@ loop-less c =
 
 loop-again : tie.Need-loop-again Inv-loop μ-loop
 loop-again c =
-    let start = c .before .before .before .before .before .before .before .before .before in
+    let back = c .before .before .before .before .before .before .before in
+    let start = back .before .before .before in
     let a = start .args in
     let here = c .before .before .before .before .before .before .before .loop in
     let made = c .before .before .before .before .before .one-step in
@@ -82,12 +71,12 @@ part-of-lowest-spec =
     (tie.spec
     Inv-loop
     μ-loop
-    sub-y
+    (λ c. search needs)
     loop-holds
     one-step-requires
-    enum-known-made
-    same-length
+    (λ c. search needs)
+    (λ c. search needs)
     returns
-    enum-known-made-2
+    (λ c. search needs)
     loop-less
     loop-again)

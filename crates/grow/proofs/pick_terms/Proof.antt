@@ -1,3 +1,4 @@
+-- `grow::pick_terms` writes what it picks behind the list. The invariant: what the terms passed give stands there. Assumes nothing.
 use native.Mathlib.Omega.{arith}
 use borrow.Author.Needs.{needs}
 use Prim.Native.Nat.{_≤_, _-_, _+_}
@@ -7,8 +8,6 @@ use lib.ListN.{length}
 use Rattle.grow.proofs.Picking.{Picking, picking-none, picking-taken, picking-left}
 use Rattle.grow.proofs.pick_terms.Statement.{statement}
 use Rattle.grow.proofs.pick_terms.Tie as tie
-use Rattle.grow.proofs.pick_terms.Reads as reads
-use Rattle.grow.proofs.pick_terms.Lts as lts
 
 abbrev Inv-loop : tie.InvT-loop
 Inv-loop work₀ n at keep fixed value k₀ i₀ work k i =
@@ -21,30 +20,6 @@ loop-holds : tie.Need-loop-holds Inv-loop μ-loop
 loop-holds c =
     let a = c .args in
     (search needs, picking-none (a .work .now) (a .at) (a .keep) (a .fixed) (a .value) (omega arith))
-
-mul-t : tie.Need-mul-t Inv-loop μ-loop
-mul-t c = search needs
-
-slice-read-t : tie.Need-slice-read-t Inv-loop μ-loop
-slice-read-t c = search needs
-
-add-work : tie.Need-add-work Inv-loop μ-loop
-add-work c = search needs
-
-mul-work : tie.Need-mul-work Inv-loop μ-loop
-mul-work c = search needs
-
-slice-write-work : tie.Need-slice-write-work Inv-loop μ-loop
-slice-write-work c = search needs
-
-add-k : tie.Need-add-k Inv-loop μ-loop
-add-k c = search needs
-
-add-i : tie.Need-add-i Inv-loop μ-loop
-add-i c = search needs
-
-loop-less : tie.Need-loop-less Inv-loop μ-loop
-loop-less c = search needs
 
 loop-again : tie.Need-loop-again Inv-loop μ-loop
 loop-again c =
@@ -63,9 +38,6 @@ loop-again c =
     ))
     (c .if1 .came)
 
-same-length : tie.Need-same-length Inv-loop μ-loop
-same-length c = search needs
-
 returns : tie.Need-returns Inv-loop μ-loop
 returns c =
     let a = c .before .before .args in
@@ -80,14 +52,14 @@ pick-terms-spec =
     Inv-loop
     μ-loop
     loop-holds
-    mul-t
-    slice-read-t
-    add-work
-    mul-work
-    slice-write-work
-    add-k
-    add-i
-    loop-less
+    (λ c. search needs)
+    (λ c. search needs)
+    (λ c. search needs)
+    (λ c. search needs)
+    (λ c. search needs)
+    (λ c. search needs)
+    (λ c. search needs)
+    (λ c. search needs)
     loop-again
-    same-length
+    (λ c. search needs)
     returns)

@@ -1,3 +1,4 @@
+-- `grow::stray` stops at the first union that is no term. The invariant: all unions before it are terms. Assumes nothing.
 use native.Mathlib.Omega.{arith}
 use borrow.Author.Needs.{needs}
 use borrow.Author.Tests.{not-true, not-false}
@@ -10,9 +11,6 @@ use Rattle.terms.specs.Search.{holds}
 use Rattle.grow.specs.Steps.{asked}
 use Rattle.grow.proofs.stray.Statement.{statement}
 use Rattle.grow.proofs.stray.Tie as tie
-use Rattle.grow.proofs.stray.Reads as reads
-use Rattle.grow.proofs.stray.Lts as lts
-use Rattle.terms.proofs.is_term.Reads as is-term-reads
 
 abbrev Inv-loop : tie.InvT-loop
 Inv-loop f list keep add i₀ i =
@@ -24,23 +22,8 @@ abbrev μ-loop : tie.MeasureT-loop
 loop-holds : tie.Need-loop-holds Inv-loop μ-loop
 loop-holds c = (search needs, (λ k h. absurd (omega arith)))
 
-mul-t : tie.Need-mul-t Inv-loop μ-loop
-mul-t c = search needs
-
-shared-slice-read-t : tie.Need-shared-slice-read-t Inv-loop μ-loop
-shared-slice-read-t c = search needs
-
-is-term-requires : tie.Need-is-term-requires Inv-loop μ-loop
-is-term-requires c κs = search needs
-
 returns : tie.Need-returns Inv-loop μ-loop
 returns c = record { within = search needs; stray = (λ h. sym (c .before .is-term .ensures) ∙ not-true (c .before .is-term .result) (c .if1 .taken)); none = c .before .before .before .before .loop .inv .1 }
-
-add-i : tie.Need-add-i Inv-loop μ-loop
-add-i c = search needs
-
-loop-less : tie.Need-loop-less Inv-loop μ-loop
-loop-less c = search needs
 
 loop-again : tie.Need-loop-again Inv-loop μ-loop
 loop-again c = (search needs, below-more _ _ (c .before .before .before .before .loop .inv .1) (sym (c .before .is-term .ensures) ∙ not-false (c .before .is-term .result) (c .if1 .left)))
@@ -55,11 +38,11 @@ stray-spec =
     Inv-loop
     μ-loop
     loop-holds
-    mul-t
-    shared-slice-read-t
-    is-term-requires
+    (λ c. search needs)
+    (λ c. search needs)
+    (λ c κs. search needs)
     returns
-    add-i
-    loop-less
+    (λ c. search needs)
+    (λ c. search needs)
     loop-again
     returns-2)

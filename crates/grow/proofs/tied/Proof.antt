@@ -1,3 +1,4 @@
+-- `grow::tied` compares products of counts, in a word each. Assumes nothing.
 use native.Mathlib.Omega.{arith}
 use borrow.Author.Needs.{needs}
 use Prim.Native.Nat.{ℕ, _*_, _≤_}
@@ -9,15 +10,6 @@ use Rattle.splitting.proofs.Holding.{having, having-length}
 use Rattle.grow.proofs.Counting.{product-below}
 use Rattle.grow.proofs.tied.Statement.{statement}
 use Rattle.grow.proofs.tied.Tie as tie
-use Rattle.grow.proofs.tied.Reads as reads
-use Rattle.grow.proofs.tied.Lts as lts
-use Rattle.grow.proofs.count_holding.Reads as count-holding-reads
-
-count-holding-requires : tie.Need-count-holding-requires
-count-holding-requires c κs = search needs
-
-count-holding-requires-2 : tie.Need-count-holding-requires-2
-count-holding-requires-2 c κs = search needs
 
 mul-if1 : tie.Need-mul-if1
 mul-if1 c =
@@ -57,4 +49,4 @@ returns-2 c = λ e same.
 pub tied-spec : {M : Type 1} → statement M
 tied-spec =
     tie.close
-    (tie.spec count-holding-requires count-holding-requires-2 mul-if1 mul-if1-2 returns returns-2)
+    (tie.spec (λ c κs. search needs) (λ c κs. search needs) mul-if1 mul-if1-2 returns returns-2)

@@ -1,3 +1,4 @@
+-- `grow::unions` asks each term of a. The invariant: the unions of all terms passed are terms of f. Assumes nothing.
 use native.Mathlib.Omega.{arith}
 use borrow.Author.Needs.{needs}
 use borrow.Author.Count.{below-more}
@@ -10,9 +11,6 @@ use Rattle.grow.specs.Steps.{asked}
 use Rattle.grow.proofs.Tests.{none-is-stray, one-is-stray}
 use Rattle.grow.proofs.unions.Statement.{statement}
 use Rattle.grow.proofs.unions.Tie as tie
-use Rattle.grow.proofs.unions.Reads as reads
-use Rattle.grow.proofs.unions.Lts as lts
-use Rattle.grow.proofs.stray.Reads as stray-reads
 
 abbrev Inv-loop : tie.InvT-loop
 Inv-loop f a b w i₀ i =
@@ -24,24 +22,10 @@ abbrev μ-loop : tie.MeasureT-loop
 loop-holds : tie.Need-loop-holds Inv-loop μ-loop
 loop-holds c = (search needs, (λ k h. absurd (omega arith)))
 
-mul-s : tie.Need-mul-s Inv-loop μ-loop
-mul-s c = search needs
-
-shared-slice-read-s : tie.Need-shared-slice-read-s Inv-loop μ-loop
-shared-slice-read-s c = search needs
-
-stray-requires : tie.Need-stray-requires Inv-loop μ-loop
-stray-requires c κs = search needs
-
-mul-t12 : tie.Need-mul-t12 Inv-loop μ-loop
-mul-t12 c = search needs
-
-shared-slice-read-t14 : tie.Need-shared-slice-read-t14 Inv-loop μ-loop
-shared-slice-read-t14 c = search needs
-
 returns : tie.Need-returns Inv-loop μ-loop
 returns c =
-    let a = c .before .before .before .before .before .before .before .before .before .args in
+    let back = c .before .before .before .before .before .before .before in
+    let a = back .before .before .args in
     let i = c .before .before .before .before .before .loop .i in
     let r = c .before .before .stray .result in (
       mem-at (a .a .now) i (omega arith),
@@ -49,15 +33,10 @@ returns c =
       one-is-stray (a .f .now) (a .b .now) (a .w) (getD (a .a .now) i 0) r (c .before .before .stray .ensures) (c .before .if1 .taken),
     )
 
-add-i : tie.Need-add-i Inv-loop μ-loop
-add-i c = search needs
-
-loop-less : tie.Need-loop-less Inv-loop μ-loop
-loop-less c = search needs
-
 loop-again : tie.Need-loop-again Inv-loop μ-loop
 loop-again c =
-    let a = c .before .before .before .before .before .before .before .before .args in
+    let back = c .before .before .before .before .before .before .before in
+    let a = back .before .args in
     let here = c .before .before .before .before .loop in (
       search needs,
       below-more (λ (k : ℕ). (t : ℕ) → Mem (a .b .now) t → Mem (a .f .now) (asked (a .w) (getD (a .a .now) k 0) t)) (here .i) (here .inv .1)
@@ -79,13 +58,13 @@ unions-spec =
     Inv-loop
     μ-loop
     loop-holds
-    mul-s
-    shared-slice-read-s
-    stray-requires
-    mul-t12
-    shared-slice-read-t14
+    (λ c. search needs)
+    (λ c. search needs)
+    (λ c κs. search needs)
+    (λ c. search needs)
+    (λ c. search needs)
     returns
-    add-i
-    loop-less
+    (λ c. search needs)
+    (λ c. search needs)
     loop-again
     returns-2)

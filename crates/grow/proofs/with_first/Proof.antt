@@ -1,3 +1,4 @@
+-- `grow::with_first` mixes the first term with each. The invariant: the mixes of all terms passed are there. Assumes nothing.
 use native.Mathlib.Omega.{arith}
 use borrow.Author.Needs.{needs}
 use borrow.Author.Tests.{not-true, not-false}
@@ -11,9 +12,6 @@ use Rattle.terms.specs.Search.{holds}
 use Rattle.grow.proofs.Tests.{outside-ascends, inside-ascends, missing-behind, missing-before, nothing-missing}
 use Rattle.grow.proofs.with_first.Statement.{statement}
 use Rattle.grow.proofs.with_first.Tie as tie
-use Rattle.grow.proofs.with_first.Reads as reads
-use Rattle.grow.proofs.with_first.Lts as lts
-use Rattle.terms.proofs.is_term.Reads as is-term-reads
 
 abbrev Inv-loop : tie.InvT-loop
 Inv-loop f inner outer y w first i₀ i =
@@ -23,17 +21,8 @@ Inv-loop f inner outer y w first i₀ i =
 abbrev μ-loop : tie.MeasureT-loop
 μ-loop f inner outer y w first i₀ i = length f - i
 
-shared-slice-read-first : tie.Need-shared-slice-read-first Inv-loop μ-loop
-shared-slice-read-first c = search needs
-
 loop-holds : tie.Need-loop-holds Inv-loop μ-loop
 loop-holds c = (search needs, (λ k h. absurd (omega arith)))
-
-mul-t : tie.Need-mul-t Inv-loop μ-loop
-mul-t c = search needs
-
-shared-slice-read-t : tie.Need-shared-slice-read-t Inv-loop μ-loop
-shared-slice-read-t c = search needs
 
 is-term-requires : tie.Need-is-term-requires Inv-loop μ-loop
 is-term-requires c κs =
@@ -43,27 +32,24 @@ is-term-requires c κs =
 
 returns : tie.Need-returns Inv-loop μ-loop
 returns c =
-    let start = c .before .before .before .before .before .before .before .before .before in
+    let back = c .before .before .before .before .before .before .before in
+    let start = back .before .before in
     let a = start .args in
     missing-behind (a .f .now) (a .y) (a .w) (a .inner .now) (a .outer .now) (start .pre) (c .before .before .before .before .loop .i) (omega arith) (sym (c .before .is-term .ensures) ∙ not-true (c .before .is-term .result) (c .if1 .taken))
 
 is-term-requires-2 : tie.Need-is-term-requires-2 Inv-loop μ-loop
 is-term-requires-2 c κs =
-    let start = c .before .before .before .before .before .before .before .before .before in
+    let back = c .before .before .before .before .before .before .before in
+    let start = back .before .before in
     let a = start .args in
     inside-ascends (a .f .now) (a .y) (a .w) (a .inner .now) (a .outer .now) (start .pre)
 
 returns-2 : tie.Need-returns-2 Inv-loop μ-loop
 returns-2 c =
-    let start = c .before .before .before .before .before .before .before .before .before .before .before in
+    let back = c .before .before .before .before .before .before .before in
+    let start = back .before .before .before .before in
     let a = start .args in
     missing-before (a .f .now) (a .y) (a .w) (a .inner .now) (a .outer .now) (start .pre) (c .before .before .before .before .before .before .loop .i) (omega arith) (sym (c .before .is-term2 .ensures) ∙ not-true (c .before .is-term2 .result) (c .if2 .taken))
-
-add-i : tie.Need-add-i Inv-loop μ-loop
-add-i c = search needs
-
-loop-less : tie.Need-loop-less Inv-loop μ-loop
-loop-less c = search needs
 
 loop-again : tie.Need-loop-again Inv-loop μ-loop
 loop-again c =
@@ -89,15 +75,15 @@ with-first-spec =
     (tie.spec
     Inv-loop
     μ-loop
-    shared-slice-read-first
+    (λ c. search needs)
     loop-holds
-    mul-t
-    shared-slice-read-t
+    (λ c. search needs)
+    (λ c. search needs)
     is-term-requires
     returns
     is-term-requires-2
     returns-2
-    add-i
-    loop-less
+    (λ c. search needs)
+    (λ c. search needs)
     loop-again
     returns-3)

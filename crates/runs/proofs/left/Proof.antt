@@ -6,12 +6,6 @@ use native.Mathlib.Omega.{arith}
 use borrow.Author.Needs.{needs}
 use Rattle.runs.proofs.left.Statement.{statement}
 use Rattle.runs.proofs.left.Tie as tie
-use Rattle.runs.proofs.left.Reads as reads
-use Rattle.runs.proofs.left.Lts as lts
-use Rattle.terms.proofs.width_of.Reads as width-of-reads
-
-width-of-requires : tie.Need-width-of-requires
-width-of-requires c κs = search needs
 
 returns : tie.Need-returns
 returns c =
@@ -22,4 +16,4 @@ returns-2 : tie.Need-returns-2
 returns-2 c = left-all (c .before .before .args .m) (c .before .before .args .k)
 
 pub left-spec : {M : Type 1} → statement M
-left-spec = tie.close (tie.spec width-of-requires returns returns-2)
+left-spec = tie.close (tie.spec (λ c κs. search needs) returns returns-2)

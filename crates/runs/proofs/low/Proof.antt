@@ -3,11 +3,6 @@ use Rattle.runs.proofs.Facts.{low-by-mask, mask-not-zero, low-of-all}
 use borrow.Author.Needs.{needs}
 use Rattle.runs.proofs.low.Statement.{statement}
 use Rattle.runs.proofs.low.Tie as tie
-use Rattle.runs.proofs.low.Reads as reads
-use Rattle.runs.proofs.low.Lts as lts
-
-shl-result : tie.Need-shl-result
-shl-result c = search needs
 
 sub-result : tie.Need-sub-result
 sub-result c = mask-not-zero 64 (c .before .args .k) (c .if1 .taken)
@@ -19,4 +14,4 @@ returns-2 : tie.Need-returns-2
 returns-2 c = low-of-all 64 (c .before .args .x) (c .before .args .k) (search needs) (c .before .pre) (c .if1 .left)
 
 pub low-spec : {M : Type 1} → statement M
-low-spec = tie.close (tie.spec shl-result sub-result returns returns-2)
+low-spec = tie.close (tie.spec (λ c. search needs) sub-result returns returns-2)

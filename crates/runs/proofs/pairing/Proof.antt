@@ -4,14 +4,6 @@ use Rattle.runs.proofs.Facts.{neither-pairing}
 use borrow.Author.Needs.{needs}
 use Rattle.runs.proofs.pairing.Statement.{statement}
 use Rattle.runs.proofs.pairing.Tie as tie
-use Rattle.runs.proofs.pairing.Reads as reads
-use Rattle.runs.proofs.pairing.Lts as lts
-
-returns : tie.Need-returns
-returns c = search needs
-
-returns-2 : tie.Need-returns-2
-returns-2 c = search needs
 
 returns-3 : tie.Need-returns-3
 returns-3 c =
@@ -24,4 +16,4 @@ returns-4 c =
     (λ p. ⊎-elim (λ w. w .1 .left (p .1)) (λ w. w .left (p .0)) (c .before .if1 .came)) (λ p. c .if3 .left (p .0))
 
 pub pairing-spec : {M : Type 1} → statement M
-pairing-spec = tie.close (tie.spec returns returns-2 returns-3 returns-4)
+pairing-spec = tie.close (tie.spec (λ c. search needs) (λ c. search needs) returns-3 returns-4)

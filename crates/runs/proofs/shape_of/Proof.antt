@@ -2,8 +2,6 @@
 use Rattle.runs.proofs.Facts.{shape-divided, shape-free, shape-mixed}
 use Rattle.runs.proofs.shape_of.Statement.{statement}
 use Rattle.runs.proofs.shape_of.Tie as tie
-use Rattle.runs.proofs.shape_of.Reads as reads
-use Rattle.runs.proofs.shape_of.Lts as lts
 
 returns : tie.Need-returns
 returns c = shape-divided (c .before .args .l .now) (c .before .args .h .now) (c .if1 .taken)

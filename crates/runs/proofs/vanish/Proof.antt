@@ -2,8 +2,6 @@
 use mathlib.Core.Logic.{inl, inr, ⊎-elim}
 use Rattle.runs.proofs.vanish.Statement.{statement}
 use Rattle.runs.proofs.vanish.Tie as tie
-use Rattle.runs.proofs.vanish.Reads as reads
-use Rattle.runs.proofs.vanish.Lts as lts
 
 returns : tie.Need-returns
 returns c = inl (c .if1 .taken)

@@ -6,16 +6,6 @@ use Rattle.runs.proofs.Facts.{within-by-width, none-within}
 use borrow.Author.Needs.{needs}
 use Rattle.runs.proofs.within.Statement.{statement}
 use Rattle.runs.proofs.within.Tie as tie
-use Rattle.runs.proofs.within.Reads as reads
-use Rattle.runs.proofs.within.Lts as lts
-use Rattle.runs.proofs.low.Reads as low-reads
-use Rattle.terms.proofs.width_of.Reads as width-of-reads
-
-low-requires : tie.Need-low-requires
-low-requires c κs = search needs
-
-width-of-requires : tie.Need-width-of-requires
-width-of-requires c κs = search needs
 
 returns : tie.Need-returns
 returns c =
@@ -28,4 +18,4 @@ returns-2 c =
     (subst (λ (n : ℕ). n ≤ c .before .before .before .args .w) (c .before .width-of .ensures ∙ ap width (c .before .before .low .ensures)) (c .if1 .left))
 
 pub within-spec : {M : Type 1} → statement M
-within-spec = tie.close (tie.spec low-requires width-of-requires returns returns-2)
+within-spec = tie.close (tie.spec (λ c κs. search needs) (λ c κs. search needs) returns returns-2)
