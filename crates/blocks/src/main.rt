@@ -1,4 +1,4 @@
-// Runs the block examples of document 01 over read and write, with those that settle its open places, and prints what it found:
+// Runs the block examples (RULES 7.4) over read and write, with more for the order of the checks and their notes (RULES 5.3), and prints what it found:
 // the block or the terms, the four numbers, and the whole lent buffer. The buffer holds 9 or ee in every place before the call.
 use show::fill;
 use show::print_answer;
@@ -49,8 +49,8 @@ fn write_four(terms: &[u64]) {
     write_into(terms, &mut out);
 }
 
-// The blocks of document 01, "Checked examples" and "The printed split".
-fn document() {
+// The blocks of RULES 7.4 and 6.4.
+fn of_the_rules() {
     read(b"\x10\x00\x00");
     read(b"\x10\x00\x01");
     read(b"\x10\x60\x04\x2a\xe0");
@@ -149,7 +149,7 @@ fn large() {
 }
 
 fn main() {
-    document();
+    of_the_rules();
     order_of_checks();
     corners();
     lists();

@@ -1,136 +1,170 @@
--- The user's three demands, each as a theorem about the promises of the calls. That every call ends, with an answer for every
--- input, is what the check proves of each function; that the answer and every buffer are determined are the theorems
--- split-is-determined (parts), outcome-determined (same), endings-coincide (product, block). Assumes nothing.
-use Prim.Native.Nat.{ℕ, _≤_, _+_, _*_}
-use mathlib.Core.Path.{_≡_, refl, sym, ap, _∙_}
-use mathlib.Core.Bool.{Bool, true, false, not}
-use mathlib.Core.List.{List, [], _∷_}
-use lib.Bits.{bitAnd}
-use mathlib.Core.Logic.{_⊎_, inl, inr}
-use native.Mathlib.Omega.{arith}
-use lib.Dec.{ltb, eqb}
-use lib.ListN.{length}
-use Rattle.answer.specs.declared.Outcome.{Outcome}
-use Rattle.answer.specs.declared.Outcome.the-variants.{Done, Zero, TooMany, Order, Room, Work, Short, Misfit, Extra, Pad}
-use Rattle.answer.specs.Table.{numbersOf}
-use Rattle.answer.specs.Ending.{Ending, refuse, accept, if}
+-- The user's three demands, each as theorems about what the exported calls promise: an answer of four numbers and the buffers that it leaves.
+-- That every call ends, with an answer for every input, is what the check proves of each function. Assumes nothing.
+use Prim.Native.Nat.{ℕ, _+_, _*_, _≤_, _<_}
+use mathlib.Core.Path.{_≡_, refl, sym, ap, ap₂, _∙_, subst}
+use mathlib.Core.Bool.{Bool}
+use mathlib.Core.List.{List, [], _∷_, map, foldr}
+use lib.ListN.{length, take, drop, replicate}
+use lib.Seq.{take-at}
+use Rattle.answer.specs.declared.Answer.{Answer}
+use Rattle.answer.specs.Table.{accepted}
+use Rattle.answer.specs.Ends.{Check, over, Writes}
+use Rattle.answer.specs.Checked.{coded}
+use Rattle.answer.proofs.Ends.{refusal-keeps, accepted-passed, passed-accepts}
 use Rattle.polys.specs.List.{Asc}
-use Rattle.polys.specs.Poly.{vars, times, Apart}
-use Rattle.polys.specs.Parts.{IsParts, product}
-use Rattle.terms.specs.Order.{unordered}
-use Rattle.terms.specs.Width.{widthOf}
+use Rattle.polys.specs.Poly.{times, Apart}
+use Rattle.polys.specs.Parts.{Each, IsParts, product}
 use Rattle.unique.specs.Merged.{merged}
-use Rattle.unique.specs.Choice.{chosen, others, lengthsMultiplied}
+use Rattle.unique.specs.Choice.{chosen, others}
 use Rattle.unique.proofs.Same.{parts-are-unique}
 use Rattle.unique.proofs.Merge.{parts-of-product}
 use Rattle.unique.proofs.Factors.{choice-gives-factors, factors-give-choice}
 use Rattle.unique.proofs.Counts.{lengths-multiply}
-use Rattle.block.specs.Calls.{reading, readingBody, writing}
-use Rattle.block.specs.Format.{formIn, nIn, tIn, size, termsIn, spareIn, sizeOf, blockOf}
-use Rattle.product.specs.Multiply.{multiplying}
-use Rattle.parts.specs.Split.{Buffers, Refused, Accepted, SplitEnds}
+use Rattle.ring.specs.Same.{ordinary, multiplied, Same}
+use Rattle.factors.specs.Ordinary.{IrreducibleGF2}
+use Rattle.factors.proofs.Parts.{parts-are-irreducible-over-GF2, parts-multiply-over-GF2}
+use Rattle.block.specs.Calls.{readChecks, writeChecks, ReadEnds, WriteEnds}
+use Rattle.block.specs.Format.{nIn, tIn, termsIn, blockOf}
+use Rattle.block.proofs.RoundTrip.{read-determined, write-determined}
+use Rattle.product.specs.Multiply.{multiplyChecks, MultiplyEnds}
+use Rattle.product.proofs.Algebra.{multiply-is-determined, passed, gave}
+use Rattle.product.proofs.Passing.{apart}
+use Rattle.same.specs.Same.{SameEnds}
+use Rattle.same.proofs.Promise.{same-products-is-determined}
+use Rattle.parts.specs.Split.{Buffers, joined, lengths, splitChecks, Splits, SplitEnds}
+use Rattle.parts.proofs.Determined.{split-is-determined}
+use Rattle.demands.specs.Told.{cut, told, Holds, Words}
+use Rattle.demands.proofs.Buffers.{words-below, cut-joined, counted-lengths, multiplied-words, added-words, added-at-most}
 
--- an outcome that accepts nothing
-abbrev Refusal : Outcome → Type 0
-Refusal outcome = (count : ℕ) → outcome ≡ Done count → ⊥
+-- ---- demand 1: for every input one answer, and after a refusal every lent buffer holds what it held
 
--- ---- demand 1: after a refusal every lent buffer holds what it held
+pub split-has-one-ending : (maxTerms maxVars : ℕ) (f : List ℕ) (old : Buffers) (x y : Answer) (new new′ : Buffers)
+    → SplitEnds maxTerms maxVars f old x new → SplitEnds maxTerms maxVars f old y new′ → (x ≡ y) × (new ≡ new′)
+split-has-one-ending = split-is-determined
 
--- a call with one buffer that keeps it where it refuses
-abbrev Keeps : List ℕ → Ending → Type 0
-Keeps old ending = Refusal (ending .0) → ending .1 ≡ old
+pub multiply-has-one-ending : (maxTerms : ℕ) (a b old : List ℕ) (x y : Answer) (new new′ : List ℕ)
+    → MultiplyEnds maxTerms a b old x new → MultiplyEnds maxTerms a b old y new′ → (x ≡ y) × (new ≡ new′)
+multiply-has-one-ending = multiply-is-determined
 
-refuse-keeps : (old : List ℕ) (test : Bool) (refusal : Outcome) (next : Ending) → Keeps old next → Keeps old (refuse old test refusal next)
-refuse-keeps old true refusal next k r = refl
-refuse-keeps old false refusal next k r = k r
+pub same-products-has-one-ending : (maxTerms maxVars : ℕ) (a d b c : List ℕ) (x y : Answer)
+    → SameEnds maxTerms maxVars a d b c x → SameEnds maxTerms maxVars a d b c y → x ≡ y
+same-products-has-one-ending = same-products-is-determined
 
-accept-keeps : (old : List ℕ) (count : ℕ) (new : List ℕ) → Keeps old (accept old count new)
-accept-keeps old count new r = absurd (r count refl)
+pub read-has-one-ending : (maxTerms maxVars : ℕ) (block old : List ℕ) (x y : Answer) (new new′ : List ℕ)
+    → ReadEnds maxTerms maxVars block old x new → ReadEnds maxTerms maxVars block old y new′ → (x ≡ y) × (new ≡ new′)
+read-has-one-ending = read-determined
 
-pub refused-multiply-keeps : (most : ℕ) (a b out : List ℕ) → Keeps out (multiplying most a b out)
-refused-multiply-keeps most a b out =
-    refuse-keeps out (ltb most (length a)) _ _
-    (refuse-keeps out (ltb most (length b)) _ _
-    (refuse-keeps out (ltb (unordered a) (length a)) _ _
-    (refuse-keeps out (ltb (unordered b) (length b)) _ _
-    (refuse-keeps out (not (eqb (bitAnd (vars a) (vars b)) 0)) _ _
-    (refuse-keeps out (ltb most (length a * length b)) _ _
-    (refuse-keeps out (ltb (length out) (length a * length b)) _ _ (accept-keeps out (length (times a b)) (times a b))))))))
+pub write-has-one-ending : (maxTerms : ℕ) (terms old : List ℕ) (x y : Answer) (new new′ : List ℕ)
+    → WriteEnds maxTerms terms old x new → WriteEnds maxTerms terms old y new′ → (x ≡ y) × (new ≡ new′)
+write-has-one-ending = write-determined
 
-pub refused-write-keeps : (most : ℕ) (terms out : List ℕ) → Keeps out (writing most terms out)
-refused-write-keeps most terms out =
-    refuse-keeps out (ltb most (length terms)) _ _
-    (refuse-keeps out (ltb (unordered terms) (length terms)) _ _
-    (refuse-keeps out (ltb (length out) (sizeOf terms)) _ _ (accept-keeps out (sizeOf terms) (blockOf terms))))
+-- the checks of split with these buffers
+abbrev checks : ℕ → ℕ → List ℕ → Buffers → List Check
+checks maxTerms maxVars f old = splitChecks maxTerms maxVars f (length (old .terms)) (length (old .lengths)) (length (old .work))
 
-pub refused-read-keeps : (most wide : ℕ) (block out : List ℕ) → Keeps out (reading most wide block out)
-refused-read-keeps most wide block out =
-    refuse-keeps out (ltb (length block) 3) _ _
-    (refuse-keeps out (not (eqb (formIn block) 1)) _ _
-    (refuse-keeps out (ltb wide (nIn block)) _ _ (refuse-keeps out (ltb most (tIn block)) _ _ (body (nIn block) (tIn block)))))
-  where
-    body : (n t : ℕ) → Keeps out (readingBody block n t out)
-    body n t =
-        let all = termsIn block n t in
-        let end : Ending = accept out t all in
-        let pad : Ending = refuse out (ltb 0 (spareIn block n t)) Pad end in
-        let fit : Ending = refuse out (ltb (widthOf all) n) Misfit pad in
-        let order : Ending = refuse out (ltb (unordered all) t) (Order 1 (unordered all)) fit in
-        let room : Ending = refuse out (ltb (length out) t) (Room 1) order in
-        let extra : Ending = refuse out (ltb (size n t) (length block)) Extra room in
-        refuse-keeps out (ltb (length block) (size n t)) Short extra
-        (refuse-keeps out (ltb (size n t) (length block)) Extra room
-        (refuse-keeps out (ltb (length out) t) (Room 1) order
-        (refuse-keeps out (ltb (unordered all) t) (Order 1 (unordered all)) fit
-        (refuse-keeps out (ltb (widthOf all) n) Misfit pad (refuse-keeps out (ltb 0 (spareIn block n t)) Pad end (accept-keeps out t all))))))
+pub refused-split-keeps : (maxTerms maxVars : ℕ) (f : List ℕ) (old : Buffers) (answer : Answer) (new : Buffers)
+    → SplitEnds maxTerms maxVars f old answer new → 0 < answer .code → new ≡ old
+refused-split-keeps maxTerms maxVars f old = refusal-keeps old (Splits f old) (checks maxTerms maxVars f old)
 
--- split: refused with the buffers as they were, or accepted with the parts; nothing else
-abbrev RefusedOrAccepted : List ℕ → Buffers → Outcome → Buffers → Type 0
-RefusedOrAccepted f old outcome new = (Refusal outcome × (new ≡ old)) ⊎ Accepted f old outcome new
+pub refused-multiply-keeps : (maxTerms : ℕ) (a b old : List ℕ) (answer : Answer) (new : List ℕ)
+    → MultiplyEnds maxTerms a b old answer new → 0 < answer .code → new ≡ old
+refused-multiply-keeps maxTerms a b old = refusal-keeps old (Writes (times a b) old) (multiplyChecks maxTerms a b (length old))
 
-either-way : (test : Bool) (f : List ℕ) (old : Buffers) (outcome : Outcome) (new : Buffers) (refusal : Outcome) (next : Type 0) → Refusal refusal
-    → (next → RefusedOrAccepted f old outcome new) → if test (Refused refusal old outcome new) next → RefusedOrAccepted f old outcome new
-either-way true f old outcome new refusal next isnt go e = inl ((λ count d. isnt count (sym (e .0) ∙ d)), e .1)
-either-way false f old outcome new refusal next isnt go e = go e
+pub refused-read-keeps : (maxTerms maxVars : ℕ) (block old : List ℕ) (answer : Answer) (new : List ℕ)
+    → ReadEnds maxTerms maxVars block old answer new → 0 < answer .code → new ≡ old
+refused-read-keeps maxTerms maxVars block old =
+    refusal-keeps old (Writes (termsIn block (nIn block) (tIn block)) old) (readChecks maxTerms maxVars block (length old))
 
--- none of split's refusals is an acceptance: a table of their codes tells
-code-is-not-0 : (r : Outcome) → ((0 ≡ numbersOf r .code) → ⊥) → Refusal r
-code-is-not-0 r isnt count e = isnt (sym (ap (λ (o : Outcome). numbersOf o .code) e))
+pub refused-write-keeps : (maxTerms : ℕ) (terms old : List ℕ) (answer : Answer) (new : List ℕ)
+    → WriteEnds maxTerms terms old answer new → 0 < answer .code → new ≡ old
+refused-write-keeps maxTerms terms old = refusal-keeps old (Writes (blockOf terms) old) (writeChecks maxTerms terms (length old))
 
-pub split-refuses-or-accepts : (maxTerms maxVars : ℕ) (f : List ℕ) (old : Buffers) (outcome : Outcome) (new : Buffers)
-    → SplitEnds maxTerms maxVars f old outcome new → RefusedOrAccepted f old outcome new
-unfolding SplitEnds
-split-refuses-or-accepts maxTerms maxVars f old outcome new =
-    either-way (ltb maxTerms (length f)) f old outcome new (TooMany 1) _ (code-is-not-0 (TooMany 1) (λ e. absurd (omega arith)))
-    (either-way (eqb (length f) 0) f old outcome new Zero _ (code-is-not-0 Zero (λ e. absurd (omega arith)))
-    (either-way (ltb (unordered f) (length f)) f old outcome new (Order 1 (unordered f)) _ (code-is-not-0 (Order 1 (unordered f)) (λ e. absurd (omega arith)))
-    (either-way (ltb (length (old .terms)) (length f + maxVars)) f old outcome new (Room 1) _ (code-is-not-0 (Room 1) (λ e. absurd (omega arith)))
-    (either-way (ltb (length (old .lengths)) maxVars) f old outcome new (Room 1) _ (code-is-not-0 (Room 1) (λ e. absurd (omega arith)))
-    (either-way (ltb (length (old .work)) (4 * length f)) f old outcome new Work _ (code-is-not-0 Work (λ e. absurd (omega arith))) inr)))))
+-- ---- demand 2: an accepted split's buffers hold the parts, and multiplying them gives the equation
 
--- ---- demand 2: an accepted split holds the irreducible parts, their product is the equation, and no term is gained or lost
+module _ (maxTerms maxVars : ℕ) (f : List ℕ) (old : Buffers) (answer : Answer) (new : Buffers) (ends : SplitEnds maxTerms maxVars f old answer new)
+    (taken : answer .code ≡ 0) where
+  accepts : (count : ℕ) × (answer ≡ accepted count) × Splits f old count new
+  unfolding coded
+  accepts =
+      let cs = checks maxTerms maxVars f old in
+      passed-accepts old (Splits f old) cs answer new (accepted-passed old (Splits f old) cs answer new refl ends taken) ends
 
-pub accepted-split-has-the-parts : (maxTerms maxVars : ℕ) (f : List ℕ) (old : Buffers) (count : ℕ) (new : Buffers)
-    → SplitEnds maxTerms maxVars f old (Done count) new
-    → (ps : List (List ℕ)) × IsParts f ps × (count ≡ length ps) × (product ps ≡ f) × (lengthsMultiplied ps ≡ length f)
-accepted-split-has-the-parts maxTerms maxVars f old count new e =
-    go (split-refuses-or-accepts maxTerms maxVars f old (Done count) new e)
-  where
-    counted : Outcome → ℕ
-    counted o = numbersOf o .count
+  ps : List (List ℕ)
+  ps = accepts .2 .0
 
-    go : RefusedOrAccepted f old (Done count) new
-        → (ps : List (List ℕ)) × IsParts f ps × (count ≡ length ps) × (product ps ≡ f) × (lengthsMultiplied ps ≡ length f)
-    go (inl r) = absurd (r .0 count refl)
-    go (inr a) = (a .0, a .1, ap counted (a .2), a .1 .multiply, lengths-multiply f (a .0) (a .1))
+  count-is : answer .count ≡ length ps
+  unfolding ps
+  count-is = ap (λ (a : Answer). a .count) (accepts .1) ∙ accepts .2 .2
+
+  lengths-are : new .lengths ≡ over (lengths ps) (old .lengths)
+  unfolding ps
+  lengths-are = ap (λ (b : Buffers). b .lengths) (accepts .2 .3)
+
+  terms-are : new .terms ≡ over (joined ps) (old .terms)
+  unfolding ps
+  terms-are = ap (λ (b : Buffers). b .terms) (accepts .2 .3)
+
+  words-are : take (answer .count) (new .lengths) ≡ lengths ps
+  words-are = ap (take (answer .count)) lengths-are ∙ counted-lengths ps (old .lengths) (answer .count) count-is
+
+  told-is : told answer new ≡ ps
+  told-is = ap₂ cut words-are terms-are ∙ cut-joined ps (drop (length (joined ps)) (old .terms))
+
+  pub accepted-split-holds-the-parts : Holds f old answer new
+  unfolding ps
+  accepted-split-holds-the-parts =
+      record {
+        parts = subst (IsParts f) (sym told-is) (accepts .2 .1);
+        counted = accepts .1 ∙ ap accepted (accepts .2 .2 ∙ ap length (sym told-is));
+        terms = terms-are ∙ ap (λ (qs : List (List ℕ)). over (joined qs) (old .terms)) (sym told-is);
+        lengths-stand = lengths-are ∙ ap (λ (qs : List (List ℕ)). over (lengths qs) (old .lengths)) (sym told-is);
+        work = ap (λ (b : Buffers). b .work) (accepts .2 .3);
+      }
+
+  -- the words of the lengths multiply to the number of terms: none is gained or lost
+  pub lengths-multiply-to-t : foldr _*_ 1 (take (answer .count) (new .lengths)) ≡ length f
+  unfolding ps
+  lengths-multiply-to-t = ap (foldr _*_ 1) words-are ∙ multiplied-words ps ∙ lengths-multiply f ps (accepts .2 .1)
+
+  -- the parts' terms together never exceed t and the number of variables
+  pub part-terms-at-most : Words maxVars f → foldr _+_ 0 (take (answer .count) (new .lengths)) ≤ length f + maxVars
+  unfolding ps
+  part-terms-at-most w =
+      subst (λ (n : ℕ). n ≤ length f + maxVars) (sym (ap (foldr _+_ 0) words-are ∙ added-words ps)) (added-at-most maxVars f ps w (accepts .2 .1))
+
+  -- the parts are the irreducible factors over GF(2) in the ordinary sense: each is irreducible, and their ordinary product is the equation
+  pub parts-are-the-factors-over-GF2 : Words maxVars f
+      → Each (λ (p : List ℕ). IrreducibleGF2 maxVars (ordinary p)) (told answer new)
+      × Same maxVars (ordinary f) (foldr multiplied ((λ i. 0) ∷ []) (map ordinary (told answer new)))
+  parts-are-the-factors-over-GF2 w =
+      let h = accepted-split-holds-the-parts .parts in
+      (parts-are-irreducible-over-GF2 maxVars f (told answer new) h (words-below maxVars f w), parts-multiply-over-GF2 maxVars f (told answer new) h)
 
 -- ---- demand 3: the parts of a product, and the pairs of factors
 
--- for two equations with no common input: whatever the parts of each and of the product are, the latter are the former put in order
-pub parts-of-a-product-are-the-parts : (g h : List ℕ) (ps qs rs : List (List ℕ)) → IsParts g ps → IsParts h qs → Apart g h
-    → IsParts (times g h) rs → rs ≡ merged ps qs
-parts-of-a-product-are-the-parts g h ps qs rs pg ph apart pgh =
-    parts-are-unique (times g h) rs (merged ps qs) pgh (parts-of-product g h ps qs pg ph apart)
+-- multiply accepts two equations, and split accepts them and what multiply wrote: the part buffers of the product hold the parts of the two, put in order
+module _ (maxTerms maxVars : ℕ) (g h out : List ℕ) (x : Answer) (out′ : List ℕ) (multiplies : MultiplyEnds maxTerms g h out x out′) (taken : x .code ≡ 0)
+    (old₁ old₂ old₃ new₁ new₂ new₃ : Buffers) (a₁ a₂ a₃ : Answer)
+    (first : SplitEnds maxTerms maxVars g old₁ a₁ new₁) (taken₁ : a₁ .code ≡ 0)
+    (second : SplitEnds maxTerms maxVars h old₂ a₂ new₂) (taken₂ : a₂ .code ≡ 0)
+    (third : SplitEnds maxTerms maxVars (take (x .count) out′) old₃ a₃ new₃) (taken₃ : a₃ .code ≡ 0) where
+  written-is : take (x .count) out′ ≡ times g h
+  written-is =
+      let w = gave maxTerms g h out x out′ multiplies (passed maxTerms g h out x out′ multiplies taken) in
+      ap (take (x .count)) (w .1) ∙ take-at (times g h) (drop (length (times g h)) out) (x .count) (sym (ap (λ (a : Answer). a .count) (w .0)))
+
+  pub parts-of-a-product-are-told : told a₃ new₃ ≡ merged (told a₁ new₁) (told a₂ new₂)
+  parts-of-a-product-are-told =
+      parts-are-unique (times g h) (told a₃ new₃) (merged (told a₁ new₁) (told a₂ new₂))
+      (subst (λ (l : List ℕ). IsParts l (told a₃ new₃)) written-is (accepted-split-holds-the-parts maxTerms maxVars (take (x .count) out′) old₃ a₃ new₃ third taken₃ .parts))
+      (parts-of-product g h (told a₁ new₁) (told a₂ new₂) (accepted-split-holds-the-parts maxTerms maxVars g old₁ a₁ new₁ first taken₁ .parts)
+      (accepted-split-holds-the-parts maxTerms maxVars h old₂ a₂ new₂ second taken₂ .parts) (apart maxTerms g h out (passed maxTerms g h out x out′ multiplies taken)))
+
+  pub parts-of-a-product-in-the-buffers : (new₃ .terms ≡ over (joined (merged (told a₁ new₁) (told a₂ new₂))) (old₃ .terms))
+      × (new₃ .lengths ≡ over (lengths (merged (told a₁ new₁) (told a₂ new₂))) (old₃ .lengths))
+  parts-of-a-product-in-the-buffers =
+      let s = accepted-split-holds-the-parts maxTerms maxVars (take (x .count) out′) old₃ a₃ new₃ third taken₃ in
+      (s .terms ∙ ap (λ (qs : List (List ℕ)). over (joined qs) (old₃ .terms)) parts-of-a-product-are-told, s .lengths-stand ∙ ap (λ (qs : List (List ℕ)). over (lengths qs) (old₃ .lengths)) parts-of-a-product-are-told)
 
 -- each choice among the parts gives an ordered pair of equations with no common input whose product is f,
 pub each-choice-gives-a-pair : (f : List ℕ) (ps : List (List ℕ)) → IsParts f ps → (c : List Bool) → length c ≡ length ps

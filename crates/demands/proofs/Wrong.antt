@@ -1,88 +1,50 @@
--- Wrong answers that the promise of split does not allow, for the equation of the one term x0 x1 x2, whose parts are x0, x1 and x2.
--- The promise allows one ending only (split-is-determined), so each of these contradicts it. Assumes nothing.
-use Prim.Native.Nat.{ℕ}
-use mathlib.Core.Path.{_≡_, refl, sym, ap, _∙_}
-use mathlib.Core.List.{List, [], _∷_}
+-- Wrong answers that the promise of split does not allow, for any equation: whatever is not the one ending. A split that refuses, does nothing, answers
+-- one part, peels the first part and passes the rest off as whole, invents a count or a length, puts the parts in another order or leaves the
+-- work area dirty gives one of these. That there is an ending for every input is what the proof of split shows. Assumes nothing.
+use Prim.Native.Nat.{ℕ, zero, suc, _<_}
 use native.Mathlib.Omega.{arith}
-use lib.Dec.{lit≤}
+use mathlib.Core.Path.{_≡_, refl, ap, _∙_}
+use mathlib.Core.List.{List}
 use lib.ListN.{length, getD, replicate}
-use Rattle.answer.specs.declared.Outcome.{Outcome}
-use Rattle.answer.specs.declared.Outcome.the-variants.{Done, Room}
-use Rattle.answer.specs.Table.{numbersOf}
-use Rattle.masks.specs.Bit.{bit}
-use Rattle.polys.specs.List.{insert, collect}
-use Rattle.polys.specs.Poly.{vars, onto, off}
-use Rattle.polys.specs.Parts.{IsParts}
-use Rattle.terms.specs.Order.{rising, unordered}
-use Rattle.exists.specs.PartsOf.{isTerm, every, isClosed, common, firstVars, partsIn, partsOf}
-use Rattle.exists.proofs.Exist.{parts-computed}
-use Rattle.answer.specs.Ending.{over}
-use Rattle.parts.specs.Split.{joined, lengths, Buffers, SplitEnds}
-use Rattle.parts.proofs.Ends.{accepted}
+use Rattle.answer.specs.declared.Answer.{Answer}
+use Rattle.parts.specs.Split.{Buffers, SplitEnds}
 use Rattle.parts.proofs.Determined.{split-is-determined}
+use Rattle.demands.proofs.Demands.{accepted-split-holds-the-parts}
 
--- the equation, and its parts
-pub f : List ℕ
-f = 7 ∷ []
+-- every word of a cleared area is 0
+zeros : (n i : ℕ) → _≡_ {A = ℕ} (getD (replicate n 0) i 0) 0
+zeros zero i = refl
+zeros (suc n) zero = refl
+zeros (suc n) (suc i) = zeros n i
 
-pub ps : List (List ℕ)
-ps = (1 ∷ []) ∷ (2 ∷ []) ∷ (4 ∷ []) ∷ []
+-- an ending that the promise allows, and the ending of some other program
+module _ (maxTerms maxVars : ℕ) (f : List ℕ) (old : Buffers) (right : Answer) (left : Buffers) (allowed : SplitEnds maxTerms maxVars f old right left)
+    (answer : Answer) (new : Buffers) where
+  abbrev Allowed : Type 0
+  Allowed = SplitEnds maxTerms maxVars f old answer new
 
-parts : IsParts f ps
-unfolding f ps bit insert collect vars onto off isTerm every isClosed common firstVars partsIn partsOf
-parts = parts-computed (7 ∷ []) ((1 ∷ []) ∷ (2 ∷ []) ∷ (4 ∷ []) ∷ []) (tt, tt) (λ e. zero-one (ap length e)) .0 refl
-  where
-    zero-one : _≡_ {A = ℕ} 1 0 → ⊥
-    zero-one e = absurd (omega arith)
+  only : Allowed → (answer ≡ right) × (new ≡ left)
+  only ends = split-is-determined maxTerms maxVars f old answer right new left ends allowed
 
--- lent buffers with just enough room, and what a split has to leave in them
-pub lent : Buffers
-lent = record { terms = replicate 65 9; lengths = replicate 64 9; work = replicate 4 9 }
+  pub other-endings-are-refuted : ¬ ((answer ≡ right) × (new ≡ left)) → ¬ Allowed
+  other-endings-are-refuted isnt ends = isnt (only ends)
 
-pub left : Buffers
-left = record { terms = over (joined ps) (lent .terms); lengths = over (lengths ps) (lent .lengths); work = replicate (length (lent .work)) 0 }
+  pub any-other-count-is-wrong : ¬ (answer .count ≡ right .count) → ¬ Allowed
+  any-other-count-is-wrong isnt ends = isnt (ap (λ (a : Answer). a .count) (only ends .0))
 
-right : SplitEnds 1024 64 f lent (Done 3) left
-unfolding f lent left ps unordered rising
-right =
-    accepted 1024 64 f lent (lit≤ tt) (λ e. absurd (omega arith)) (lit≤ tt) (lit≤ tt) (lit≤ tt) (lit≤ tt) (Done 3) left (ps, parts, refl, refl)
+  pub any-other-term-is-wrong : (i : ℕ) → ¬ (getD (new .terms) i 0 ≡ getD (left .terms) i 0) → ¬ Allowed
+  any-other-term-is-wrong i isnt ends = isnt (ap (λ (b : Buffers). getD (b .terms) i 0) (only ends .1))
 
--- another outcome, or another buffer, is no ending
-wrong-outcome : (o : Outcome) (b : Buffers) → ((3 ≡ numbersOf o .count) → ⊥) → SplitEnds 1024 64 f lent o b → ⊥
-wrong-outcome o b isnt e = isnt (ap (λ (o : Outcome). numbersOf o .count) (split-is-determined 1024 64 f lent (Done 3) o left b right e .0))
+  pub any-other-length-is-wrong : (i : ℕ) → ¬ (getD (new .lengths) i 0 ≡ getD (left .lengths) i 0) → ¬ Allowed
+  any-other-length-is-wrong i isnt ends = isnt (ap (λ (b : Buffers). getD (b .lengths) i 0) (only ends .1))
 
-wrong-buffers : (b : Buffers) → (left ≡ b → ⊥) → SplitEnds 1024 64 f lent (Done 3) b → ⊥
-wrong-buffers b isnt e = isnt (split-is-determined 1024 64 f lent (Done 3) (Done 3) left b right e .1)
+  -- where the equation is accepted
+  module _ (taken : right .code ≡ 0) where
+    pub any-refusal-is-wrong : 0 < answer .code → ¬ Allowed
+    any-refusal-is-wrong h ends = omega (arith, ap (λ (a : Answer). a .code) (only ends .0))
 
--- a split that refuses
-pub refusing-is-wrong : (b : Buffers) → SplitEnds 1024 64 f lent (Room 1) b → ⊥
-refusing-is-wrong b = wrong-outcome (Room 1) b (λ e. absurd (omega arith))
-
--- a split that does nothing
-pub doing-nothing-is-wrong : SplitEnds 1024 64 f lent (Done 0) lent → ⊥
-doing-nothing-is-wrong = wrong-outcome (Done 0) lent (λ e. absurd (omega arith))
-
--- a split that answers one part, whatever it leaves in the buffers
-pub one-part-is-wrong : (b : Buffers) → SplitEnds 1024 64 f lent (Done 1) b → ⊥
-one-part-is-wrong b = wrong-outcome (Done 1) b (λ e. absurd (omega arith))
-
--- a split that peels the first part and passes the rest off as whole, whatever it leaves in the buffers
-pub peeling-is-wrong : (b : Buffers) → SplitEnds 1024 64 f lent (Done 2) b → ⊥
-peeling-is-wrong b = wrong-outcome (Done 2) b (λ e. absurd (omega arith))
-
--- an invented count, with the right buffers
-pub invented-count-is-wrong : SplitEnds 1024 64 f lent (Done 4) left → ⊥
-invented-count-is-wrong = wrong-outcome (Done 4) left (λ e. absurd (omega arith))
-
--- an invented length; parts out of order; a dirty work area
-pub invented-length-is-wrong : (b : Buffers) → (1 ≡ getD (b .lengths) 2 0 → ⊥) → SplitEnds 1024 64 f lent (Done 3) b → ⊥
-unfolding left lent ps
-invented-length-is-wrong b isnt = wrong-buffers b (λ e. isnt (ap (λ (x : Buffers). getD (x .lengths) 2 0) e))
-
-pub another-order-is-wrong : (b : Buffers) → (1 ≡ getD (b .terms) 0 0 → ⊥) → SplitEnds 1024 64 f lent (Done 3) b → ⊥
-unfolding left lent ps joined
-another-order-is-wrong b isnt = wrong-buffers b (λ e. isnt (ap (λ (x : Buffers). getD (x .terms) 0 0) e))
-
-pub dirty-work-is-wrong : (b : Buffers) → (0 ≡ getD (b .work) 3 0 → ⊥) → SplitEnds 1024 64 f lent (Done 3) b → ⊥
-unfolding left lent
-dirty-work-is-wrong b isnt = wrong-buffers b (λ e. isnt (ap (λ (x : Buffers). getD (x .work) 3 0) e))
+    -- any word of the work area, also behind 4 t
+    pub dirty-work-is-wrong : (i : ℕ) → ¬ (getD (new .work) i 0 ≡ 0) → ¬ Allowed
+    dirty-work-is-wrong i isnt ends =
+        let h = accepted-split-holds-the-parts maxTerms maxVars f old right left allowed taken in
+        isnt (ap (λ (b : Buffers). getD (b .work) i 0) (only ends .1) ∙ ap (λ (l : List ℕ). getD l i 0) (h .work) ∙ zeros (length (old .work)) i)

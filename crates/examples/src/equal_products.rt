@@ -1,4 +1,4 @@
-// Same products: document 01's examples, its checks in their order, and long products.
+// Same products: the examples of RULES 7.3, its checks in their order, and long products.
 use show::fill;
 use show::print_answer;
 use show::print_list;
@@ -26,8 +26,8 @@ fn same_long(names: &[u8], a: &[u64], d: &[u64], b: &[u64], c: &[u64]) {
     text(b"\n");
 }
 
-// Document 01, "Checked examples": same products.
-pub fn document() {
+// The examples of RULES 7.3.
+pub fn of_the_rules() {
     same(&[1], &[1], &[1], &[0]);
     same(&[0, 1], &[0, 2], &[0, 1], &[0]);
     same(&[0, 1], &[0], &[0], &[0, 1]);

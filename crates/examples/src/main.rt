@@ -1,4 +1,4 @@
-// Runs document 01's examples over split, multiply and same products, with those that settle its open places, and prints what it found: the call,
+// Runs the examples of RULES 7 over split, multiply and same products, with more for the order of the checks and their notes (RULES 5.3), and prints what it found: the call,
 // its lists, the four numbers, and every lent buffer whole. A buffer holds 9 in every place before the call; `9(64)` at a buffer's
 // end is 64 words of 9.
 mod equal_products;
@@ -6,10 +6,10 @@ mod products;
 mod splits;
 
 fn main() {
-    splits::document();
-    splits::document_long();
-    products::document();
-    equal_products::document();
+    splits::of_the_rules();
+    splits::long_of_the_rules();
+    products::of_the_rules();
+    equal_products::of_the_rules();
     splits::order_checks();
     splits::room_checks();
     splits::constant_checks();

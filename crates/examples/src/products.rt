@@ -1,4 +1,4 @@
-// Multiply: document 01's examples, its checks in their order, and what it leaves in the buffer.
+// Multiply: the examples of RULES 7.2, its checks in their order, and what it leaves in the buffer.
 use show::fill;
 use show::print_answer;
 use show::print_buffer;
@@ -39,8 +39,8 @@ fn multiply_long(names: &[u8], a: &[u64], b: &[u64], room: usize) {
     text(b"\n");
 }
 
-// Document 01, "Checked examples": multiply.
-pub fn document() {
+// The examples of RULES 7.2.
+pub fn of_the_rules() {
     let none = [0u64; 1];
     multiply(&[0, 1], &[0, 2], 4);
     multiply(&[0, 1], &[1], 4);

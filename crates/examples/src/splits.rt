@@ -1,4 +1,4 @@
-// Split: document 01's examples, its checks in their order, and what it leaves in the buffers.
+// Split: the examples of RULES 7.1, its checks in their order, and what it leaves in the buffers.
 use show::fill;
 use show::print_answer;
 use show::print_buffer;
@@ -63,8 +63,8 @@ fn split_fitting(list: &[u64]) {
     }
 }
 
-// Document 01, "Checked examples": split.
-pub fn document() {
+// The examples of RULES 7.1 but the long ones.
+pub fn of_the_rules() {
     let none = [0u64; 1];
     split_fitting(&none[0..0]);
     split_fitting(&[0]);
@@ -81,8 +81,8 @@ pub fn document() {
     split_fitting(&[18446744073709551615]);
 }
 
-// Document 01, "Checked examples": split of the longest list, and of one that is too long. And of the longest that has one part.
-pub fn document_long() {
+// The long ones of RULES 7.1: the longest list, and one that is too long. And the longest that has one part.
+pub fn long_of_the_rules() {
     let mut list = [0u64; 1025];
     fill(&mut list, 0);
     split_long(b"{0..1023}", &list[0..1024], 1088, 64, 4096);

@@ -176,7 +176,7 @@ fn compare(list: &[u64]) {
     print_tally(measure(list, none));
 }
 
-// The lists of document 01 that have variables, and some more with x or x + 1 among the factors.
+// The lists of RULES 7.1 that have variables, and some more with x or x + 1 among the factors.
 fn small() {
     compare(&[1]);
     compare(&[0, 1]);

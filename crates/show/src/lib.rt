@@ -1,4 +1,4 @@
-// What the programs that run document 01's examples print with: words, bytes, lists, whole buffers and the four numbers; and the
+// What the programs that run the examples of RULES 7 print with: words, bytes, lists, whole buffers and the four numbers; and the
 // long lists that they make and compare. What is printed is tested, not proved.
 ghost use Prim.Native.Nat.{_≤_, _<_};
 ghost use mathlib.Core.Path.{_≡_};
@@ -55,7 +55,7 @@ pub fn print_answer(a: Answer) {
     number(a.count);
 }
 
-// A list as document 01 writes it, `{1,2,5,6}`.
+// A list as RULES 7 writes it, `{1,2,5,6}`.
 pub fn print_list(words: &[u64]) {
     text(b"{");
     let mut i = 0;

@@ -1,4 +1,4 @@
-// The program `split` (document 01, "The printed split"): reads a block from standard input and prints its parts, or the refusal.
+// The program `split` (RULES 6): reads a block from standard input and prints its parts, or the refusal.
 // Thin over the proved library: what it prints is tested, not proved.
 use answer::Outcome;
 use libc::STDOUT_FILENO;
