@@ -1,22 +1,32 @@
-/* Reads a block and prints its parts, one a line: what the program `split` does, from C.
+/* Reads a block and prints its parts, one a line: what the program `split` does, from C. On x86-64:
  *
+ *   rt staticlib apfelruder
  *   cc -O2 -Iinclude examples-c/split_block.c target/staticlib/libapfelruder.a -o target/split_block
- *   printf '\x10\x60\x04\x2a\xe0' | target/split_block         (or: target/split_block FILE)
+ *   printf '\020\140\004\052\340' | target/split_block         (also: target/split_block FILE; - is standard input)
  *
  * prints
  *   parts 2
  *   x0+x1
  *   1+x2
  *
- * The archive is for x86-64. On an Arm machine the same line with a cross compiler makes a program for an emulator:
- *   x86_64-linux-gnu-gcc -static -O2 -Iinclude examples-c/split_block.c target/staticlib/libapfelruder.a -o target/split_block
+ * Status: 0 accepted (or --help), 1 refused, 2 trouble, with a line on standard error: input that cannot be read, output that
+ * cannot be written, bad usage. With a terminal as standard input it waits for what is typed, up to the end (Ctrl-D). If the
+ * reader of its output has gone it is ended by the signal SIGPIPE, like any C program that does not ask for another ending.
+ *
+ * On another machine (an Arm one) link the same proved module compiled for that machine:
+ *
+ *   scripts/native-archive
+ *   cc -O2 -Iinclude examples-c/split_block.c target/native/libapfelruder.a -o target/split_block
  */
 #include "apfelruder.h"
 
 #include <stdio.h>
+#include <string.h>
 
 /* One byte more than the longest block, so that a longer input is seen to be too long. */
 enum { INPUT_BYTES = APFELRUDER_MAX_BLOCK_BYTES + 1 };
+
+enum { ACCEPTED = 0, REFUSED = 1, TROUBLE = 2 };
 
 static void print_term(uint64_t term) {
     const char *between = "";
@@ -39,7 +49,7 @@ static void print_part(const uint64_t *part, uint64_t length) {
 static int refused(apfelruder_answer why) {
     printf("refused %llu %llu %llu\n", (unsigned long long)why.code, (unsigned long long)why.operand,
            (unsigned long long)why.place);
-    return 1;
+    return REFUSED;
 }
 
 static int split_block(const uint8_t *bytes, size_t length) {
@@ -60,15 +70,39 @@ static int split_block(const uint8_t *bytes, size_t length) {
         print_part(part, part_lengths[i]);
         part += part_lengths[i];
     }
-    return 0;
+    return ACCEPTED;
+}
+
+static int trouble(const char *with) {
+    perror(with);
+    return TROUBLE;
+}
+
+static void usage(FILE *to) {
+    fprintf(to, "usage: split_block [FILE]     prints the parts of the block in FILE, or in standard input (also: -)\n");
+}
+
+/* What printf could not write may show only now. */
+static int delivered(int status) {
+    return ferror(stdout) || fclose(stdout) != 0 ? trouble("standard output") : status;
 }
 
 int main(int argc, char **argv) {
     static uint8_t bytes[INPUT_BYTES];
-    FILE *input = argc > 1 ? fopen(argv[1], "rb") : stdin;
-    if (!input) {
-        perror(argv[1]);
-        return 2;
+    if (argc > 2) {
+        usage(stderr);
+        return TROUBLE;
     }
-    return split_block(bytes, fread(bytes, 1, sizeof bytes, input));
+    if (argc == 2 && strcmp(argv[1], "--help") == 0) {
+        usage(stdout);
+        return delivered(ACCEPTED);
+    }
+    int named = argc == 2 && strcmp(argv[1], "-") != 0;
+    const char *name = named ? argv[1] : "standard input";
+    FILE *input = named ? fopen(name, "rb") : stdin;
+    if (!input) return trouble(name);
+    size_t length = fread(bytes, 1, sizeof bytes, input);
+    /* a folder opens like a file and fails here; without this it would pass for an empty block */
+    if (ferror(input)) return trouble(name);
+    return delivered(split_block(bytes, length));
 }

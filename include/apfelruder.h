@@ -1,6 +1,6 @@
 /* Apfelruder: sums mod 2 of products, split into parts with no common variable.
  *
- * The five calls of document 01 (exact scope and rules), for C and C++. The library behind them is
+ * The five calls of docs/RULES.md, for C and C++. The library behind them is
  * proved: for every input, each call gives the answer and leaves the buffers that this page describes.
  * What no proof covers is this declaration itself and what a caller passes: see "Memory" below.
  *
@@ -9,7 +9,7 @@
  *   list    a strictly ascending array of at most APFELRUDER_MAX_TERMS terms: a polynomial.
  *           The empty list is zero, the list of the single term 0 is one.
  *   part    an irreducible factor. The parts of a list have no common variable; their product is the list.
- *   block   a polynomial packed into bytes (document 01, "The packed block").
+ *   block   a polynomial packed into bytes (RULES 4).
  *
  * Answers
  *   Every call returns four numbers by value.
@@ -31,8 +31,15 @@
  *     Inputs may overlap one another: same_products(a, a, a, a) is fine.
  *   - The library keeps no pointer, allocates nothing, has no state, and prints nothing. Calls from
  *     several threads at once are independent as long as no output of one is a slice of another.
- *   - It takes its room from the stack: some 50 kilobytes for same_products, which recurses once for each variable
- *     at most, and less for the others. Leave it 256 kilobytes where threads have small stacks.
+ *   - It takes its room from the stack, and no proof says how much. Seen on x86-64: up to 80 kilobytes for multiply,
+ *     which recurses once for each run of terms, up to 45 for same_products, which recurses once for each variable at
+ *     most, and under 8 for the others. Leave it 256 kilobytes where threads have small stacks.
+ *
+ * Linking
+ *   - target/staticlib/libapfelruder.a (`rt staticlib apfelruder`) is for x86-64. For another machine
+ *     scripts/native-archive compiles the same proved module: target/native/libapfelruder.a.
+ *   - Either archive defines the five calls below and no other global symbol.
+ *   - Of the C library it needs memset alone; a program without a C library supplies that.
  */
 #ifndef APFELRUDER_H
 #define APFELRUDER_H
@@ -40,8 +47,9 @@
 #include <stddef.h>
 #include <stdint.h>
 
-/* The interface described here. A later version that adds a number n to the answers, or raises a limit,
- * has another major number. */
+/* The version of this page. The minor number grows when something is added and all that a program could rely
+ * on still holds; the major number grows when it may not: another limit or buffer size, another shape or
+ * meaning of an answer, a call that is gone. */
 #define APFELRUDER_VERSION_MAJOR 1
 #define APFELRUDER_VERSION_MINOR 0
 #define APFELRUDER_VERSION (APFELRUDER_VERSION_MAJOR * 1000 + APFELRUDER_VERSION_MINOR)
@@ -90,8 +98,8 @@ extern "C" {
  *         The sizes are asked for even where the parts would fit into less.
  * Gives   count = the number of parts, 0 to 64. The parts lie one after another from the start of
  *         part_terms, each ascending, in ascending order of their lowest variable; part_lengths holds
- *         their lengths in the same order. The lengths multiply to t. A variable in every term is a
- *         part of its own; the list {0} has no parts; variables keep their numbers.
+ *         their lengths in the same order. The lengths multiply to t. A variable that all terms hold
+ *         is a part, alone; the list {0} has no parts; variables keep their numbers.
  *         Every word of work, also behind 4 t, is 0. Words of part_terms and part_lengths behind what
  *         was written are unchanged.
  * Refuses in this order, operand 1 throughout:
@@ -119,8 +127,9 @@ apfelruder_answer apfelruder_multiply(const uint64_t *a, size_t a_len,
 
 /* Says whether A times D equals B times C, exactly, for any four lists.
  *
- * Note the order of the arguments: a, d, b, c. Products are ordinary ones here: x times x is x squared
- * and not x, and lists may share variables. Nothing is written and no product is built.
+ * Note the order of the arguments: a, d, b, c. The products are those of polynomials with exponents: x
+ * times x has the exponent 2, so it differs from x. Lists may share variables. Nothing is written and no
+ * product is built.
  * Needs   the four lists.
  * Gives   count = 1 for yes, 0 for no.
  * Refuses in this order:
