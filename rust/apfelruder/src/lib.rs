@@ -1,73 +1,97 @@
-//! The five calls of Apfelruder for Rust programs.
+//! The five calls of Apfelruder for Rust programs: a sum modulo 2 of products of variables is split into parts that
+//! share no variable.
 //!
-//! [`raw`] has them as they are: slices in, four numbers out, nothing allocated. The functions of the crate itself
-//! take the room that a call needs and answer a `Result`.
-//!
-//! ```no_run
+//! ```
+//! # #[cfg(all(feature = "split", feature = "alloc"))] {
 //! // x0 x2 + x1 x2 + x0 + x1 = (x0 + x1)(1 + x2)
 //! assert_eq!(apfelruder::split(&[1, 2, 5, 6]), Ok(vec![vec![1, 2], vec![0, 4]]));
+//! # }
 //! ```
+//!
+//! The work is done by a proved library, an archive that is linked in. This crate hands it slices and turns its four
+//! numbers into a `Result`; it decides nothing itself.
+//!
+//! # Words
+//!
+//! - **Variable**: one of x0 to x63 ([`MAX_VARS`]).
+//! - **Term**: a product of different variables, as a `u64`. Bit i stands for the variable xi: x0 x2 is 5. The number 0
+//!   is the constant term 1, a term like any other.
+//! - **List**: a polynomial, as its terms in strictly ascending order, at most 1,024 of them ([`MAX_TERMS`]); its sum is
+//!   modulo 2. The empty list is zero, the list of the single term 0 is one. **t** is the number of terms.
+//! - **Part**: an irreducible factor, again a list. The parts of a list share no variable, their product is the list, and
+//!   none of them is such a product itself. Each list but zero has exactly one set of parts; one has none.
+//! - **Block**: a list packed into bytes, at most [`MAX_BLOCK_BYTES`]. The first three are one number of 24 bits, high byte
+//!   first: its upper 4 bits are the form number 1, the next 7 are n, the lower 13 are t. Behind them stand the terms, the
+//!   lowest first, each as a binary number of n digits; what is left of the last byte is 0 (the padding).
+//! - **n**: how many binary digits the largest term of a list takes: 3 if that holds x2 and no higher variable, 0 if no
+//!   variable occurs.
+//! - **Answer**: the four numbers that every call gives: code, operand, place, count ([`raw::Answer`]).
+//! - **Code**: 0 if the call is accepted, else why it is refused ([`Refusal`]). A refused call has changed no buffer.
+//! - **Operand**: which input is refused, counted from 1 in the order of the call; 0 if no single one is.
+//! - **Place**: the index, from 0, of the first term that is not above the one before it; 0 with every other refusal.
+//! - **Count**: what an accepted call found: parts, terms, bytes, or 1 for yes and 0 for no; 0 if refused.
+//!
+//! # Two ways to call
+//!
+//! The functions of the crate itself answer with a `Result`, and take the room that they need: half a kilobyte at most for
+//! a list that is too long, some 50 kilobytes at most else. Those of [`raw`] work in the caller's buffers and allocate
+//! nothing; [`raw::Answer::result`] makes a `Result` of their answer.
+//!
+//! A list whose terms are not ascending is refused, not sorted. To make one of any terms, sort them and drop equal ones in
+//! pairs: modulo 2 they cancel.
+//!
+//! # Features
+//!
+//! | feature | what it is for |
+//! |---|---|
+//! | `split`, `multiply`, `same_products`, `read`, `write` | the call of that name, and its raw call; what is off is not asked of the archive |
+//! | `alloc` | the functions that answer with a `Vec`, that is all but `same_products` |
+//!
+//! All are on by default. The crate is `no_std` and has no dependency; with `default-features = false` and some calls it
+//! needs no allocator either. The archive asks for one function from outside: `memset`.
+//!
+//! # What to know
+//!
+//! - The calls keep no state, so they may run on many threads at once. They take their room from the stack, some 50
+//!   kilobytes at most: leave a thread 256.
+//! - No call panics, for any input.
+//! - The archive is libapfelruder.a, for x86-64, as `rt staticlib apfelruder` writes it. The build script looks for it in
+//!   target/staticlib of the repository, or in the folder that the environment variable `APFELRUDER_LIB_DIR` names (an
+//!   absolute path). Checking and documenting work without it.
+#![no_std]
 
-mod refusal;
+#[cfg(feature = "alloc")]
+extern crate alloc;
 
 pub mod raw;
+mod refusal;
 
+#[cfg(all(feature = "multiply", feature = "alloc"))]
+mod multiply;
+#[cfg(all(feature = "read", feature = "alloc"))]
+mod read;
+#[cfg(feature = "same_products")]
+mod same_products;
+#[cfg(all(feature = "split", feature = "alloc"))]
+mod split;
+#[cfg(all(feature = "write", feature = "alloc"))]
+mod write;
+
+#[cfg(all(feature = "multiply", feature = "alloc"))]
+pub use multiply::multiply;
+#[cfg(all(feature = "read", feature = "alloc"))]
+pub use read::read;
 pub use refusal::Refusal;
+#[cfg(feature = "same_products")]
+pub use same_products::same_products;
+#[cfg(all(feature = "split", feature = "alloc"))]
+pub use split::split;
+#[cfg(all(feature = "write", feature = "alloc"))]
+pub use write::write;
 
 /// The most terms that a list has.
 pub const MAX_TERMS: usize = 1024;
 /// The number of variables.
 pub const MAX_VARS: usize = 64;
-/// The length of the longest block.
+/// The length of the longest block: 3 bytes, and 1,024 terms of 64 bits.
 pub const MAX_BLOCK_BYTES: usize = 8195;
-
-/// The irreducible parts of a list, in ascending order of their lowest variable.
-#[cfg(feature = "split")]
-pub fn split(terms: &[u64]) -> Result<Vec<Vec<u64>>, Refusal> {
-    let t = terms.len().min(MAX_TERMS);
-    let mut part_terms = vec![0; t + MAX_VARS];
-    let mut lengths = [0; MAX_VARS];
-    let mut work = vec![0; 4 * t];
-    let parts = refusal::count(raw::split(terms, &mut part_terms, &mut lengths, &mut work))?;
-    let mut rest = &part_terms[..];
-    let mut found = Vec::with_capacity(parts);
-    for &length in &lengths[..parts] {
-        let (part, behind) = rest.split_at(length as usize);
-        found.push(part.to_vec());
-        rest = behind;
-    }
-    Ok(found)
-}
-
-/// The product of two lists that have no common variable.
-#[cfg(feature = "multiply")]
-pub fn multiply(a: &[u64], b: &[u64]) -> Result<Vec<u64>, Refusal> {
-    let mut out = vec![0; a.len().saturating_mul(b.len()).min(MAX_TERMS)];
-    let count = refusal::count(raw::multiply(a, b, &mut out))?;
-    out.truncate(count);
-    Ok(out)
-}
-
-/// Whether a times d equals b times c. Note the order.
-#[cfg(feature = "same_products")]
-pub fn same_products(a: &[u64], d: &[u64], b: &[u64], c: &[u64]) -> Result<bool, Refusal> {
-    Ok(refusal::count(raw::same_products(a, d, b, c))? == 1)
-}
-
-/// The list that a block holds.
-#[cfg(feature = "read")]
-pub fn read(bytes: &[u8]) -> Result<Vec<u64>, Refusal> {
-    let mut out = vec![0; MAX_TERMS];
-    let count = refusal::count(raw::read(bytes, &mut out))?;
-    out.truncate(count);
-    Ok(out)
-}
-
-/// The block of a list.
-#[cfg(feature = "write")]
-pub fn write(terms: &[u64]) -> Result<Vec<u8>, Refusal> {
-    let mut out = vec![0; MAX_BLOCK_BYTES];
-    let count = refusal::count(raw::write(terms, &mut out))?;
-    out.truncate(count);
-    Ok(out)
-}

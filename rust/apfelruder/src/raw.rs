@@ -1,9 +1,48 @@
-//! The calls as the archive exports them (include/apfelruder.h). What the header asks of a C caller, slices that are
-//! there and outputs that overlap nothing, Rust's references give.
+//! The calls as the archive exports them: slices in, four numbers out, nothing allocated. What the C header
+//! (include/apfelruder.h) asks of a caller, slices that are there and outputs that overlap nothing, Rust's references give.
+//!
+//! A refused call leaves every buffer as it was. An accepted one leaves what is behind its output unchanged, so a buffer
+//! may be longer than needed.
+//!
+//! ```
+//! # #[cfg(feature = "split")] {
+//! use apfelruder::raw;
+//!
+//! // (x0 + x1)(1 + x2): room for four terms, and no allocator
+//! const T: usize = 4;
+//! let mut part_terms = [0; raw::part_terms_words(T)];
+//! let mut part_lengths = [0; raw::PART_LENGTHS_WORDS];
+//! let mut work = [0; raw::work_words(T)];
+//! let count = raw::split(&[1, 2, 5, 6], &mut part_terms, &mut part_lengths, &mut work).result()?;
+//! let mut parts = raw::parts(&part_terms, &part_lengths, count);
+//! assert_eq!(parts.next(), Some(&[1, 2][..]));
+//! assert_eq!(parts.next(), Some(&[0, 4][..]));
+//! assert_eq!(parts.next(), None);
+//! # }
+//! # Ok::<(), apfelruder::Refusal>(())
+//! ```
+#![allow(unsafe_code)] // the boundary to the archive, and the only place
+use crate::{Refusal, MAX_VARS};
+
+/// The words that split needs for the lengths of the parts.
+pub const PART_LENGTHS_WORDS: usize = MAX_VARS;
+
+/// The words that split needs for the terms of the parts of a list of t terms.
+#[must_use]
+pub const fn part_terms_words(t: usize) -> usize {
+    t.saturating_add(MAX_VARS)
+}
+
+/// The words that split needs as work area for a list of t terms.
+#[must_use]
+pub const fn work_words(t: usize) -> usize {
+    t.saturating_mul(4)
+}
 
 /// The four numbers of every answer.
 #[repr(C)]
-#[derive(Clone, Copy, Debug, PartialEq, Eq)]
+#[derive(Clone, Copy, Debug, PartialEq, Eq, Hash)]
+#[must_use = "a refused call has done nothing: look at the code, or take the result"]
 pub struct Answer {
     /// 0 if accepted, else the number of the refusal.
     pub code: u64,
@@ -15,10 +54,33 @@ pub struct Answer {
     pub count: u64,
 }
 
+impl Answer {
+    /// The count of an accepted answer. No call gives a count above [`MAX_BLOCK_BYTES`](crate::MAX_BLOCK_BYTES); one that a
+    /// `usize` cannot hold would become the largest that it can.
+    ///
+    /// ```
+    /// use apfelruder::{raw::Answer, Refusal};
+    ///
+    /// assert_eq!(Answer { code: 0, operand: 0, place: 0, count: 2 }.result(), Ok(2));
+    /// let refused = Answer { code: 3, operand: 2, place: 7, count: 0 };
+    /// assert_eq!(refused.result(), Err(Refusal::Order { operand: 2, place: 7 }));
+    /// ```
+    ///
+    /// # Errors
+    ///
+    /// The refusal, with its code, operand and place, if the code is not 0. Numbers that the table of refusals does not have
+    /// are kept in [`Refusal::Unknown`].
+    pub fn result(self) -> Result<usize, Refusal> {
+        match self.code {
+            0 => Ok(usize::try_from(self.count).unwrap_or(usize::MAX)),
+            code => Err(Refusal::of(code, self.operand, self.place)),
+        }
+    }
+}
+
 mod c {
-    #![allow(dead_code)]
-    use super::Answer;
     extern "C" {
+        #[cfg(feature = "split")]
         pub fn apfelruder_split(
             terms: *const u64,
             terms_len: usize,
@@ -28,7 +90,8 @@ mod c {
             part_lengths_len: usize,
             work: *mut u64,
             work_len: usize,
-        ) -> Answer;
+        ) -> super::Answer;
+        #[cfg(feature = "multiply")]
         pub fn apfelruder_multiply(
             a: *const u64,
             a_len: usize,
@@ -36,7 +99,8 @@ mod c {
             b_len: usize,
             out: *mut u64,
             out_len: usize,
-        ) -> Answer;
+        ) -> super::Answer;
+        #[cfg(feature = "same_products")]
         pub fn apfelruder_same_products(
             a: *const u64,
             a_len: usize,
@@ -46,13 +110,21 @@ mod c {
             b_len: usize,
             c: *const u64,
             c_len: usize,
-        ) -> Answer;
-        pub fn apfelruder_read(bytes: *const u8, bytes_len: usize, out: *mut u64, out_len: usize) -> Answer;
-        pub fn apfelruder_write(terms: *const u64, terms_len: usize, out: *mut u8, out_len: usize) -> Answer;
+        ) -> super::Answer;
+        #[cfg(feature = "read")]
+        pub fn apfelruder_read(bytes: *const u8, bytes_len: usize, out: *mut u64, out_len: usize) -> super::Answer;
+        #[cfg(feature = "write")]
+        pub fn apfelruder_write(terms: *const u64, terms_len: usize, out: *mut u8, out_len: usize) -> super::Answer;
     }
 }
 
-/// Count: the number of parts. Needs t + 64, 64 and 4 t words.
+/// Splits a list of t terms into its parts.
+///
+/// Needs [`part_terms_words`], [`PART_LENGTHS_WORDS`] and [`work_words`] of t. Count: the number of parts, which lie one
+/// after another from the start of `part_terms`, their lengths in `part_lengths`; [`parts`] walks over them. Every word of
+/// `work` is 0 then.
+///
+/// Refuses, in this order and with operand 1: 2 `TooMany`, 1 `Zero`, 3 `Order`, 6 `Room` (part terms, then lengths), 7 `Work`.
 #[cfg(feature = "split")]
 pub fn split(terms: &[u64], part_terms: &mut [u64], part_lengths: &mut [u64], work: &mut [u64]) -> Answer {
     // SAFETY: each pointer comes with its own length, and &mut slices overlap nothing.
@@ -70,14 +142,33 @@ pub fn split(terms: &[u64], part_terms: &mut [u64], part_lengths: &mut [u64], wo
     }
 }
 
-/// Count: the number of terms written.
+/// The parts that an accepted [`split`] has left in its buffers, `count` of them. It never reads outside of the buffers:
+/// numbers that split did not give end the walk early.
+#[cfg(feature = "split")]
+pub fn parts<'a>(part_terms: &'a [u64], part_lengths: &'a [u64], count: usize) -> impl Iterator<Item = &'a [u64]> + 'a {
+    let mut rest = part_terms;
+    part_lengths.iter().take(count).map_while(move |&length| {
+        let (part, behind) = rest.split_at_checked(usize::try_from(length).ok()?)?;
+        rest = behind;
+        Some(part)
+    })
+}
+
+/// Multiplies two lists that have no common variable.
+///
+/// Needs the product of their lengths, in words. Count: the number of terms, written ascending.
+///
+/// Refuses, in this order: 2 `TooMany` (operand 1, then 2), 3 `Order` (operand 1, then 2), 4 `Shared`, 5 `TooLarge`, 6
+/// `Room` (operand 0 all three).
 #[cfg(feature = "multiply")]
 pub fn multiply(a: &[u64], b: &[u64], out: &mut [u64]) -> Answer {
     // SAFETY: as for split.
     unsafe { c::apfelruder_multiply(a.as_ptr(), a.len(), b.as_ptr(), b.len(), out.as_mut_ptr(), out.len()) }
 }
 
-/// Count: 1 for yes, 0 for no.
+/// Says whether a times d equals b times c. Note the order.
+///
+/// Count: 1 for yes, 0 for no. Refuses 2 `TooMany`, then 3 `Order`, each for operands 1 to 4 in turn.
 #[cfg(feature = "same_products")]
 pub fn same_products(a: &[u64], d: &[u64], b: &[u64], c: &[u64]) -> Answer {
     // SAFETY: as for split; nothing is written.
@@ -86,14 +177,25 @@ pub fn same_products(a: &[u64], d: &[u64], b: &[u64], c: &[u64]) -> Answer {
     }
 }
 
-/// Count: the number of terms written.
+/// Reads a block.
+///
+/// Needs one word for each term that the block announces; [`MAX_TERMS`](crate::MAX_TERMS) always suffice. Count: the
+/// number of terms, written ascending.
+///
+/// Refuses, in this order and with operand 1: 10 `Short` (under 3 bytes), 8 `Form`, 9 `Wide`, 2 `TooMany`, 10 `Short`, 12
+/// `Extra`, 6 `Room`, 3 `Order`, 11 `Misfit`, 13 `Pad`.
 #[cfg(feature = "read")]
 pub fn read(bytes: &[u8], out: &mut [u64]) -> Answer {
     // SAFETY: as for split.
     unsafe { c::apfelruder_read(bytes.as_ptr(), bytes.len(), out.as_mut_ptr(), out.len()) }
 }
 
-/// Count: the number of bytes written.
+/// Writes a list as a block.
+///
+/// Needs the bytes of the block; [`MAX_BLOCK_BYTES`](crate::MAX_BLOCK_BYTES) always suffice. Count: the number of bytes
+/// written.
+///
+/// Refuses, in this order and with operand 1: 2 `TooMany`, 3 `Order`, 6 `Room`.
 #[cfg(feature = "write")]
 pub fn write(terms: &[u64], out: &mut [u8]) -> Answer {
     // SAFETY: as for split.

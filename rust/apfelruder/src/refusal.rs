@@ -1,44 +1,76 @@
-//! Document 01's table of refusals as a Rust type.
+//! The table of refusals (RULES 5.2) as a Rust type.
 use crate::raw::Answer;
-use std::fmt;
+use core::{error, fmt};
 
-/// Why a call was refused. Operands count from 1, places from 0.
-#[derive(Clone, Copy, Debug, PartialEq, Eq)]
+/// Why a call was refused.
+///
+/// A refusal stands for three numbers, [`code`](Refusal::code), [`operand`](Refusal::operand) and
+/// [`place`](Refusal::place), and keeps them all. Where the table leaves a number open it is a field: an operand counts
+/// the inputs of the call from 1 and is 0 if no single one is meant, a place is an index from 0.
+///
+/// A later version of the library may have more codes, so a `match` needs a last arm for the rest.
+#[derive(Clone, Copy, Debug, PartialEq, Eq, Hash)]
+#[non_exhaustive]
 pub enum Refusal {
+    /// Code 1: split of the empty list, which is zero and is no product of parts. Operand 1.
     Zero,
+    /// Code 2: a list has more than 1,024 terms; from read, the block says so.
     TooMany {
+        /// Which list: 1 or 2 from multiply, 1 to 4 (a, d, b, c) from same products, 1 else.
         operand: u64,
     },
+    /// Code 3: a term is not above the one before it. Terms ascend and none stands twice.
     Order {
+        /// Which list: 1 or 2 from multiply, 1 to 4 (a, d, b, c) from same products, 1 else.
         operand: u64,
+        /// The index in that list of the first such term, 1 or more; from read, of the term and not of a byte.
         place: u64,
     },
+    /// Code 4: multiply, a variable is in both lists. Operand 0, for it takes both.
     Shared,
+    /// Code 5: multiply, the lengths of the lists multiply to more than 1,024. Operand 0, for it takes both.
     TooLarge,
-    Room,
+    /// Code 6: a lent output is too short. Only raw calls can give it: the others lend enough.
+    Room {
+        /// 0 from multiply, whose room depends on both lists; 1 else.
+        operand: u64,
+    },
+    /// Code 7: split, the work area is shorter than 4 words a term. Operand 1. Only the raw call can give it.
     Work,
+    /// Code 8: read, the form number is not 1. Operand 1, as for all that follow.
     Form,
+    /// Code 9: read, the block says n above 64.
     Wide,
+    /// Code 10: read, the bytes end before the block does. Under 3 bytes is always this.
     Short,
+    /// Code 11: read, the block's n is larger than one more than the highest variable of its list.
     Misfit,
+    /// Code 12: read, there are bytes after the block.
     Extra,
+    /// Code 13: read, one of the bits that fill up the last byte is set.
     Pad,
-    /// A code that document 01 does not have: never given by the library.
+    /// Numbers that are not in the table. This version of the library never gives them; an archive of a later one may.
     Unknown {
+        /// The code, as it came.
         code: u64,
+        /// The operand, as it came.
+        operand: u64,
+        /// The place, as it came.
+        place: u64,
     },
 }
 
 impl Refusal {
-    fn of(answer: Answer) -> Refusal {
-        let operand = answer.operand;
-        match answer.code {
+    /// The refusal that stands for these numbers. It keeps them, whatever they are: what is not in the table is unknown.
+    pub(crate) fn of(code: u64, operand: u64, place: u64) -> Refusal {
+        let unknown = Refusal::Unknown { code, operand, place };
+        let tabled = match code {
             1 => Refusal::Zero,
             2 => Refusal::TooMany { operand },
-            3 => Refusal::Order { operand, place: answer.place },
+            3 => Refusal::Order { operand, place },
             4 => Refusal::Shared,
             5 => Refusal::TooLarge,
-            6 => Refusal::Room,
+            6 => Refusal::Room { operand },
             7 => Refusal::Work,
             8 => Refusal::Form,
             9 => Refusal::Wide,
@@ -46,41 +78,108 @@ impl Refusal {
             11 => Refusal::Misfit,
             12 => Refusal::Extra,
             13 => Refusal::Pad,
-            code => Refusal::Unknown { code },
+            _ => unknown,
+        };
+        let kept = tabled.operand() == operand && tabled.place() == place;
+        if kept {
+            tabled
+        } else {
+            unknown
         }
     }
-}
 
-impl fmt::Display for Refusal {
-    fn fmt(&self, f: &mut fmt::Formatter) -> fmt::Result {
+    /// The number of the refusal, as in the C header.
+    #[must_use]
+    pub const fn code(self) -> u64 {
         match self {
-            Refusal::Zero => write!(f, "zero has no parts"),
-            Refusal::TooMany { operand } => write!(f, "operand {operand} has more than 1,024 terms"),
-            Refusal::Order { operand, place } => {
-                write!(f, "operand {operand}: term {place} is not above the one before it")
-            }
-            Refusal::Shared => write!(f, "a variable is in both lists"),
-            Refusal::TooLarge => write!(f, "the product has more than 1,024 terms"),
-            Refusal::Room => write!(f, "an output is too short"),
-            Refusal::Work => write!(f, "the work area is too short"),
-            Refusal::Form => write!(f, "the form number is not 1"),
-            Refusal::Wide => write!(f, "n is above 64"),
-            Refusal::Short => write!(f, "the bytes end before the block does"),
-            Refusal::Misfit => write!(f, "n is larger than the highest variable asks for"),
-            Refusal::Extra => write!(f, "bytes after the block"),
-            Refusal::Pad => write!(f, "a padding bit is set"),
-            Refusal::Unknown { code } => write!(f, "unknown refusal {code}"),
+            Refusal::Zero => 1,
+            Refusal::TooMany { .. } => 2,
+            Refusal::Order { .. } => 3,
+            Refusal::Shared => 4,
+            Refusal::TooLarge => 5,
+            Refusal::Room { .. } => 6,
+            Refusal::Work => 7,
+            Refusal::Form => 8,
+            Refusal::Wide => 9,
+            Refusal::Short => 10,
+            Refusal::Misfit => 11,
+            Refusal::Extra => 12,
+            Refusal::Pad => 13,
+            Refusal::Unknown { code, .. } => code,
+        }
+    }
+
+    /// Which input is meant, from 1 in the order of the call; 0 if no single one is.
+    #[must_use]
+    pub const fn operand(self) -> u64 {
+        match self {
+            Refusal::TooMany { operand }
+            | Refusal::Order { operand, .. }
+            | Refusal::Room { operand }
+            | Refusal::Unknown { operand, .. } => operand,
+            Refusal::Shared | Refusal::TooLarge => 0,
+            _ => 1,
+        }
+    }
+
+    /// The index of the first term out of order; 0 with every refusal but [`Order`](Refusal::Order).
+    #[must_use]
+    pub const fn place(self) -> u64 {
+        match self {
+            Refusal::Order { place, .. } | Refusal::Unknown { place, .. } => place,
+            _ => 0,
         }
     }
 }
 
-impl std::error::Error for Refusal {}
+/// An operand in words.
+struct List(u64);
 
-/// The count of an accepted answer.
-#[allow(dead_code)]
-pub(crate) fn count(answer: Answer) -> Result<usize, Refusal> {
-    match answer.code {
-        0 => Ok(answer.count as usize),
-        _ => Err(Refusal::of(answer)),
+impl fmt::Display for List {
+    fn fmt(&self, f: &mut fmt::Formatter<'_>) -> fmt::Result {
+        match self.0 {
+            1 => f.write_str("the first list"),
+            2 => f.write_str("the second list"),
+            3 => f.write_str("the third list"),
+            4 => f.write_str("the fourth list"),
+            number => write!(f, "list {number}"),
+        }
+    }
+}
+
+/// A sentence for the designer of the equation.
+impl fmt::Display for Refusal {
+    fn fmt(&self, f: &mut fmt::Formatter<'_>) -> fmt::Result {
+        let sentence = match *self {
+            Refusal::TooMany { operand } => return write!(f, "{} has more than 1,024 terms", List(operand)),
+            Refusal::Order { operand, place } => {
+                let list = List(operand);
+                return write!(f, "{list} is out of order at index {place}: the term is not above the one before it");
+            }
+            Refusal::Unknown { code, operand, place } => {
+                return write!(f, "refused for an unknown reason: code {code}, operand {operand}, place {place}");
+            }
+            Refusal::Zero => "the list is empty: zero has no parts",
+            Refusal::Shared => "a variable is in both lists",
+            Refusal::TooLarge => "the product would have more than 1,024 terms",
+            Refusal::Room { .. } => "an output buffer is too short",
+            Refusal::Work => "the work area is shorter than 4 words a term",
+            Refusal::Form => "the form number of the block is not 1",
+            Refusal::Wide => "the block says n above 64",
+            Refusal::Short => "the bytes end before the block does",
+            Refusal::Misfit => "the block says a larger n than its highest variable asks for",
+            Refusal::Extra => "there are bytes after the block",
+            Refusal::Pad => "a padding bit at the end of the block is set",
+        };
+        f.write_str(sentence)
+    }
+}
+
+impl error::Error for Refusal {}
+
+/// The four numbers of a refused answer.
+impl From<Refusal> for Answer {
+    fn from(refusal: Refusal) -> Answer {
+        Answer { code: refusal.code(), operand: refusal.operand(), place: refusal.place(), count: 0 }
     }
 }

@@ -1,0 +1,84 @@
+//! What the safe functions take from the heap: nothing to speak of for bad input, and not too much for good.
+#![cfg(feature = "alloc")]
+#![allow(unsafe_code)] // an allocator that counts
+use std::alloc::{GlobalAlloc, Layout, System};
+use std::cell::Cell;
+
+struct Counting;
+
+thread_local! {
+    static TAKEN: Cell<usize> = const { Cell::new(0) };
+}
+
+// SAFETY: the system's allocator does the work; counting allocates nothing.
+unsafe impl GlobalAlloc for Counting {
+    unsafe fn alloc(&self, layout: Layout) -> *mut u8 {
+        TAKEN.with(|taken| taken.set(taken.get() + layout.size()));
+        // SAFETY: the caller's promise is handed on.
+        unsafe { System.alloc(layout) }
+    }
+
+    unsafe fn dealloc(&self, memory: *mut u8, layout: Layout) {
+        // SAFETY: the caller's promise is handed on.
+        unsafe { System.dealloc(memory, layout) }
+    }
+}
+
+#[global_allocator]
+static COUNTING: Counting = Counting;
+
+/// The bytes that a call takes, whether or not it gives them back.
+fn taken<T>(call: impl FnOnce() -> T) -> (T, usize) {
+    let before = TAKEN.with(Cell::get);
+    let told = call();
+    (told, TAKEN.with(Cell::get) - before)
+}
+
+#[test]
+fn the_allocator_counts() {
+    assert_eq!(taken(|| vec![0_u64; 1000]).1, 8000);
+}
+
+#[cfg(feature = "split")]
+#[test]
+fn split_of_a_long_list() {
+    let long = vec![5; 1_000_000];
+    let (told, bytes) = taken(|| apfelruder::split(&long));
+    assert_eq!(told, Err(apfelruder::Refusal::TooMany { operand: 1 }));
+    assert!(bytes <= 64 * 8, "{bytes} bytes");
+    let all: Vec<u64> = (0..1024).collect();
+    let (told, bytes) = taken(|| apfelruder::split(&all));
+    assert_eq!(told.map(|parts| parts.len()), Ok(10));
+    // the two buffers, the ten parts of two terms, the list of parts
+    assert_eq!(bytes, (1088 + 4096 + 20) * 8 + 10 * size_of::<Vec<u64>>());
+}
+
+#[cfg(feature = "multiply")]
+#[test]
+fn multiply_of_long_lists() {
+    let long = vec![5; 1_000_000];
+    let (told, bytes) = taken(|| apfelruder::multiply(&long, &long));
+    assert_eq!((told, bytes), (Err(apfelruder::Refusal::TooMany { operand: 1 }), 0));
+    let many: Vec<u64> = (0..1024).collect();
+    let (told, bytes) = taken(|| apfelruder::multiply(&many, &many));
+    assert_eq!((told, bytes), (Err(apfelruder::Refusal::Shared), 0));
+}
+
+#[cfg(feature = "read")]
+#[test]
+fn read_of_many_bytes() {
+    let (told, bytes) = taken(|| apfelruder::read(&[0x10, 0x1f, 0xff]));
+    assert_eq!((told, bytes), (Err(apfelruder::Refusal::TooMany { operand: 1 }), 0));
+    let (told, bytes) = taken(|| apfelruder::read(&[0x10, 0x00, 0x01]));
+    assert_eq!((told, bytes), (Ok(vec![0]), 8));
+}
+
+#[cfg(feature = "write")]
+#[test]
+fn write_of_a_long_list() {
+    let long = vec![5; 1_000_000];
+    let (told, bytes) = taken(|| apfelruder::write(&long));
+    assert_eq!((told, bytes), (Err(apfelruder::Refusal::TooMany { operand: 1 }), 0));
+    let (told, bytes) = taken(|| apfelruder::write(&[0]));
+    assert_eq!((told, bytes), (Ok(vec![0x10, 0x00, 0x01]), 3));
+}

@@ -1,0 +1,43 @@
+//! The calls against each other: what write packs read unpacks, and the parts of a list multiply to it.
+#![cfg(all(feature = "alloc", feature = "split", feature = "multiply", feature = "read", feature = "write"))]
+use apfelruder::{multiply, read, split, write};
+
+/// Lists of all shapes: constants, one term, many variables, the limits.
+fn lists() -> Vec<Vec<u64>> {
+    let mut lists: Vec<Vec<u64>> = vec![
+        vec![0],
+        vec![u64::MAX],
+        vec![0, u64::MAX],
+        vec![1, 2, 5, 6],
+        vec![6, 7, 12, 13],
+        vec![4, 7, 12, 15, 16, 19],
+        vec![0, 1 << 63],
+        (0..1024).collect(),
+        (0..1024).map(|i| i << 54).collect(),
+        (0..1024).map(|i| (1 << 63) + i).collect(),
+    ];
+    // every list over x0, x1, x2 but zero
+    lists.extend((1..256).map(|which: u32| (0..8).filter(|&term| which >> term & 1 == 1).collect::<Vec<u64>>()));
+    lists
+}
+
+#[test]
+fn written_and_read() {
+    for list in lists().into_iter().chain([vec![]]) {
+        let block = write(&list).unwrap();
+        assert_eq!(read(&block), Ok(list));
+    }
+}
+
+#[test]
+fn split_and_multiplied() {
+    for list in lists() {
+        let parts = split(&list).unwrap();
+        let product = parts.iter().fold(vec![0], |product, part| multiply(&product, part).unwrap());
+        assert_eq!(product, list);
+        assert_eq!(parts.iter().map(Vec::len).product::<usize>(), list.len());
+        for part in &parts {
+            assert_eq!(split(part), Ok(vec![part.clone()]));
+        }
+    }
+}
