@@ -2,23 +2,23 @@
  * For a machine that cannot link the archive into the comparing program but can run it, as under an emulator.
  *
  * All numbers are words of 64 bits in the machine's order. A call: its number (0 split, 1 multiply, 2 same products,
- * 3 read, 4 write), the length of each slice, then the slices' content, each filled up to whole words. What comes
- * back: 1 if no byte around the slices was touched, else 0; the four numbers; the content of all slices, inputs too.
+ * 3 read, 4 write); for each slice where it begins, in bytes, and its length; the length in words of the memory that
+ * holds them all, and that memory. What comes back: the four numbers, and the memory as the call left it. The comparing
+ * program lays the slices out, so it sees what was written between them.
  * Compiled with -DNO_SPLIT, -DNO_MULTIPLY, .. it does without that call. */
 #include "../../../include/apfelruder.h"
 
 long read(int file, void *to, size_t bytes);
 long write(int file, const void *from, size_t bytes);
 
-enum { GUARD = 64, ARENA = 1 << 20 };
+enum { MOST_WORDS = 1 << 20 };
 
-static uint64_t arena_words[ARENA / 8];
-static unsigned char *const arena = (unsigned char *)arena_words;
+static uint64_t memory[MOST_WORDS];
 
 /* For each call the size of the elements of its slices; 0: no such slice. */
 static const unsigned char element[5][4] = {{8, 8, 8, 8}, {8, 8, 8, 0}, {8, 8, 8, 8}, {1, 8, 0, 0}, {8, 1, 0, 0}};
 
-static uint64_t lengths[4];
+static uint64_t lengths[4], words;
 static unsigned char *slices[4];
 
 static int take(void *to, size_t bytes) {
@@ -39,30 +39,18 @@ static int give(const void *from, size_t bytes) {
     return 1;
 }
 
-static size_t whole_words(size_t bytes) { return (bytes + 7) / 8 * 8; }
-
-/* Lays the slices of a call into the arena, guards around each; 0 at the end of input or if they do not fit. */
-static int lay_out(uint64_t call) {
-    size_t at = 0;
+/* Takes the slices' places and the memory; 0 at the end of input, or if a slice lies outside or a word is not aligned. */
+static int take_memory(uint64_t call) {
+    uint64_t starts[4];
     for (int i = 0; i < 4 && element[call][i]; i++)
-        if (!take(&lengths[i], 8) || lengths[i] > ARENA / 8) return 0;
+        if (!take(&starts[i], 8) || !take(&lengths[i], 8)) return 0;
+    if (!take(&words, 8) || words > MOST_WORDS) return 0;
     for (int i = 0; i < 4 && element[call][i]; i++) {
-        size_t bytes = lengths[i] * element[call][i];
-        if (at + 2 * GUARD + whole_words(bytes) > ARENA) return 0;
-        for (int k = 0; k < GUARD; k++) arena[at + k] = 0xa5;
-        slices[i] = arena + at + GUARD;
-        if (!take(slices[i], whole_words(bytes))) return 0;
-        for (int k = 0; k < GUARD; k++) slices[i][bytes + k] = 0xa5;
-        at += GUARD + whole_words(bytes + GUARD);
+        if (starts[i] > 8 * words || lengths[i] > (8 * words - starts[i]) / element[call][i]) return 0;
+        if (starts[i] % element[call][i]) return 0;
+        slices[i] = (unsigned char *)memory + starts[i];
     }
-    return 1;
-}
-
-static uint64_t untouched(uint64_t call) {
-    for (int i = 0; i < 4 && element[call][i]; i++)
-        for (int k = 0; k < GUARD; k++)
-            if (slices[i][k - GUARD] != 0xa5 || slices[i][lengths[i] * element[call][i] + k] != 0xa5) return 0;
-    return 1;
+    return take(memory, 8 * words);
 }
 
 #define WORDS(i) (uint64_t *)slices[i], lengths[i]
@@ -93,12 +81,9 @@ static apfelruder_answer make(uint64_t call) {
 int main(void) {
     uint64_t call;
     while (take(&call, 8) && call < 5) {
-        if (!lay_out(call)) return 1;
+        if (!take_memory(call)) return 1;
         apfelruder_answer answer = make(call);
-        uint64_t clean = untouched(call);
-        if (!give(&clean, 8) || !give(&answer, sizeof answer)) return 1;
-        for (int i = 0; i < 4 && element[call][i]; i++)
-            if (!give(slices[i], whole_words(lengths[i] * element[call][i]))) return 1;
+        if (!give(&answer, sizeof answer) || !give(memory, 8 * words)) return 1;
     }
     return 0;
 }

@@ -1,6 +1,7 @@
 //! A call with the buffers that it is lent, and what comes back of it.
+use std::ops::Range;
 
-#[derive(Clone, Copy, Debug, PartialEq, Eq)]
+#[derive(Clone, Copy, Debug, PartialEq, Eq, PartialOrd, Ord)]
 pub enum Call {
     Split,
     Multiply,
@@ -24,11 +25,31 @@ pub enum Slice {
     Bytes(Vec<u8>),
 }
 
-/// A call: the slices in the order of the boundary, inputs and outputs alike.
+impl Slice {
+    pub fn len(&self) -> usize {
+        match self {
+            Slice::Words(words) => words.len(),
+            Slice::Bytes(bytes) => bytes.len(),
+        }
+    }
+}
+
+/// One piece of memory of which the inputs are parts: they may be the same, overlap or touch.
+#[derive(Clone, Debug)]
+pub struct Pool {
+    pub words: Vec<u64>,
+    pub parts: Vec<Range<usize>>,
+}
+
+/// A call: the slices in the order of the boundary, inputs and outputs alike, and where they lie.
 #[derive(Clone, Debug)]
 pub struct Request {
     pub call: Call,
     pub slices: Vec<Slice>,
+    /// Bytes begin at an address that leaves this remainder by 8; words are always aligned.
+    pub skew: usize,
+    /// If there is one, the first slices are its parts; the others lie apart.
+    pub pool: Option<Pool>,
 }
 
 /// What came back: code, operand, place, count, and all slices as they are now.
@@ -39,6 +60,10 @@ pub struct Reply {
 }
 
 impl Request {
+    fn new(call: Call, slices: Vec<Slice>) -> Request {
+        Request { call, slices, skew: 0, pool: None }
+    }
+
     pub fn split(terms: &[u64], part_terms: Vec<u64>, part_lengths: Vec<u64>, work: Vec<u64>) -> Request {
         let slices = vec![
             Slice::Words(terms.to_vec()),
@@ -46,67 +71,88 @@ impl Request {
             Slice::Words(part_lengths),
             Slice::Words(work),
         ];
-        Request { call: Call::Split, slices }
+        Request::new(Call::Split, slices)
     }
 
     pub fn multiply(a: &[u64], b: &[u64], out: Vec<u64>) -> Request {
         let slices = vec![Slice::Words(a.to_vec()), Slice::Words(b.to_vec()), Slice::Words(out)];
-        Request { call: Call::Multiply, slices }
+        Request::new(Call::Multiply, slices)
     }
 
     pub fn same_products(lists: [&[u64]; 4]) -> Request {
-        Request { call: Call::SameProducts, slices: lists.iter().map(|l| Slice::Words(l.to_vec())).collect() }
+        Request::new(Call::SameProducts, lists.iter().map(|l| Slice::Words(l.to_vec())).collect())
     }
 
     pub fn read(bytes: &[u8], out: Vec<u64>) -> Request {
-        Request { call: Call::Read, slices: vec![Slice::Bytes(bytes.to_vec()), Slice::Words(out)] }
+        Request::new(Call::Read, vec![Slice::Bytes(bytes.to_vec()), Slice::Words(out)])
     }
 
     pub fn write(terms: &[u64], out: Vec<u8>) -> Request {
-        Request { call: Call::Write, slices: vec![Slice::Words(terms.to_vec()), Slice::Bytes(out)] }
+        Request::new(Call::Write, vec![Slice::Words(terms.to_vec()), Slice::Bytes(out)])
     }
 
-    /// Refused: every buffer as it was.
-    pub fn refused(&self, code: u64, operand: u64, place: u64) -> Reply {
-        Reply { answer: [code, operand, place, 0], slices: self.slices.clone() }
+    /// Multiply of two parts of one piece of memory.
+    pub fn multiply_within(words: &[u64], parts: [Range<usize>; 2], out: Vec<u64>) -> Request {
+        let mut request = Request::multiply(&words[parts[0].clone()], &words[parts[1].clone()], out);
+        request.pool = Some(Pool { words: words.to_vec(), parts: parts.to_vec() });
+        request
     }
 
-    /// Accepted, with these words at the start of the last slice.
-    pub fn accepted_words(&self, words: &[u64]) -> Reply {
-        let mut reply = Reply { answer: [0, 0, 0, words.len() as u64], slices: self.slices.clone() };
-        if let Some(Slice::Words(out)) = reply.slices.last_mut() {
-            out[..words.len()].copy_from_slice(words);
-        }
-        reply
+    /// Same products of four parts of one piece of memory.
+    pub fn same_products_within(words: &[u64], parts: [Range<usize>; 4]) -> Request {
+        let mut request = Request::same_products([0, 1, 2, 3].map(|i: usize| &words[parts[i].clone()]));
+        request.pool = Some(Pool { words: words.to_vec(), parts: parts.to_vec() });
+        request
     }
+}
 
-    /// Accepted, with these bytes at the start of the last slice.
-    pub fn accepted_bytes(&self, bytes: &[u8]) -> Reply {
-        let mut reply = Reply { answer: [0, 0, 0, bytes.len() as u64], slices: self.slices.clone() };
-        if let Some(Slice::Bytes(out)) = reply.slices.last_mut() {
-            out[..bytes.len()].copy_from_slice(bytes);
-        }
-        reply
-    }
+/// What a call must give by the way in which its input was made, or by the rules' own words.
+pub enum Expected {
+    /// Code, operand, place; every buffer as it was.
+    Refused([u64; 3]),
+    /// These words at the start of the last slice.
+    Words(Vec<u64>),
+    /// These bytes at the start of the last slice.
+    Bytes(Vec<u8>),
+    /// Same products: yes or no.
+    Said(bool),
+    /// Split: these parts.
+    Parts(Vec<Vec<u64>>),
+}
 
-    /// Accepted by same products.
-    pub fn said(&self, yes: bool) -> Reply {
-        Reply { answer: [0, 0, 0, yes as u64], slices: self.slices.clone() }
-    }
-
-    /// Accepted by split, with these parts.
-    pub fn split_into(&self, parts: &[Vec<u64>]) -> Reply {
-        let mut reply = Reply { answer: [0, 0, 0, parts.len() as u64], slices: self.slices.clone() };
-        if let [_, Slice::Words(terms), Slice::Words(lengths), Slice::Words(work)] = &mut reply.slices[..] {
-            let mut at = 0;
-            for (i, part) in parts.iter().enumerate() {
-                terms[at..at + part.len()].copy_from_slice(part);
-                lengths[i] = part.len() as u64;
-                at += part.len();
+impl Expected {
+    pub fn reply(&self, request: &Request) -> Reply {
+        let mut slices = request.slices.clone();
+        let accepted = |count: usize| [0, 0, 0, count as u64];
+        let answer = match (self, &mut slices[..]) {
+            (Expected::Refused([code, operand, place]), _) => [*code, *operand, *place, 0],
+            (Expected::Words(words), [.., Slice::Words(out)]) => {
+                out[..words.len()].copy_from_slice(words);
+                accepted(words.len())
             }
-            work.fill(0);
-        }
-        reply
+            (Expected::Bytes(bytes), [.., Slice::Bytes(out)]) => {
+                out[..bytes.len()].copy_from_slice(bytes);
+                accepted(bytes.len())
+            }
+            (Expected::Said(yes), _) => accepted(*yes as usize),
+            (Expected::Parts(parts), [_, Slice::Words(terms), Slice::Words(lengths), Slice::Words(work)]) => {
+                lay_out(parts, terms, lengths);
+                work.fill(0);
+                accepted(parts.len())
+            }
+            _ => panic!("an answer that {} does not give", request.call.name()),
+        };
+        Reply { answer, slices }
+    }
+}
+
+/// The parts one after another, and their lengths.
+fn lay_out(parts: &[Vec<u64>], terms: &mut [u64], lengths: &mut [u64]) {
+    let mut at = 0;
+    for (part, length) in parts.iter().zip(lengths) {
+        terms[at..at + part.len()].copy_from_slice(part);
+        *length = part.len() as u64;
+        at += part.len();
     }
 }
 

@@ -1,21 +1,24 @@
 //! Compares the proved library with the independent program, through the C boundary.
 //!
 //!     compare [--bridge COMMAND ..]                fixed seeds, a few minutes
-//!     compare --seed N --seconds S [--bridge ..]   random lists, products and blocks for so long
+//!     compare --seed N --seconds S [--bridge ..]   random lists, products, blocks and refusals for so long
 //!     compare --calls read,write ..                only these calls
 //!     compare --program COMMAND ..                 the printed split of a program
 //!
 //! Without --bridge the archive must have been linked in (feature "linked"). --bridge and --program take the rest of the
-//! line. Prints what was compared; ends with 1 at the first difference.
+//! line. Prints what was compared. Ends with 0 if there was no difference, with 1 at the first difference (what is
+//! printed then begins with DIFFERENCE), with 2 if nothing or not all could be compared: wrong usage, no bridge, no program.
+mod arena;
 mod call;
 mod families;
 mod peer;
 mod printed;
 mod random;
+mod report;
 mod run;
 
 use call::Call;
-use families::{blocks, examples, lists, quadruples, refusals, sizes};
+use families::{blocks, examples, kinds, lengths, lists, quadruples, refusals, shared, sizes, small};
 use peer::{Bridge, Peer};
 use run::Run;
 use std::time::{Duration, Instant};
@@ -67,6 +70,7 @@ fn linked() -> Result<Box<dyn Peer>, String> {
 }
 
 fn main() {
+    report::keep_panics();
     if let Err(error) = start() {
         eprintln!("compare: {error}");
         std::process::exit(2);
@@ -86,29 +90,39 @@ fn start() -> Result<(), String> {
     let seed = wishes.seed.unwrap_or(1);
     println!("calls: {}; seed {seed}", names.join(", "));
     let mut run = Run::new(peer, wishes.calls, seed);
-    match wishes.seconds {
-        None => fixed(&mut run),
-        Some(seconds) => for_a_while(&mut run, Duration::from_secs(seconds)),
+    let ended = report::caught(|| {
+        match wishes.seconds {
+            None => fixed(&mut run),
+            Some(seconds) => for_a_while(&mut run, Duration::from_secs(seconds)),
+        }
+        Ok(())
+    });
+    if let Err(panic) = ended {
+        report::no_case(&run.place(), &format!("the next case of this family by seed {seed}"), &panic);
     }
-    run.report();
-    Ok(())
+    run.report()
 }
 
 /// The run of the gate.
 fn fixed(run: &mut Run) {
     examples::all(run);
     refusals::all(run);
+    refusals::random(run, 20_000);
+    kinds::all(run);
+    small::all(run);
+    lengths::all(run);
+    shared::all(run, 10_000);
     sizes::all(run);
     blocks::random(run, 20_000);
     blocks::damaged(run, 300, true);
     blocks::noise(run, 60_000);
     lists::exhaustive(run);
     run.family("products with known factors, to 64 terms");
-    lists::products(run, 120_000, 64, true);
+    lists::products(run, 120_000, 64, 1);
     run.family("products with known factors, to 256 terms");
-    lists::products(run, 3_000, 256, true);
+    lists::products(run, 3_000, 256, 1);
     run.family("products with known factors, to 1,024 terms");
-    lists::products(run, 6_000, 1024, false);
+    lists::products(run, 6_000, 1024, 40);
     lists::long(run);
     random_lists(run, 1);
     quadruples::exhaustive(run);
@@ -148,11 +162,14 @@ fn random_quadruples(run: &mut Run, share: usize) {
 /// The run by hand.
 fn for_a_while(run: &mut Run, time: Duration) {
     let end = Instant::now() + time;
+    refusals::all(run);
     while Instant::now() < end {
+        refusals::random(run, 2_000);
+        shared::all(run, 500);
         run.family("products with known factors, to 64 terms");
-        lists::products(run, 2_000, 64, true);
+        lists::products(run, 2_000, 64, 1);
         run.family("products with known factors, to 1,024 terms");
-        lists::products(run, 200, 1024, false);
+        lists::products(run, 200, 1024, 40);
         random_lists(run, 50);
         random_quadruples(run, 50);
         blocks::random(run, 500);

@@ -1,12 +1,20 @@
 //! The library that is compared: linked into this program, or behind a bridge (bridge/bridge.c), a program of its own
 //! that has the archive and is spoken to through pipes.
-use crate::call::{Reply, Request, Slice};
+use crate::arena::Arena;
+use crate::call::{Reply, Request};
 use std::io::{self, BufReader, BufWriter, Read, Write};
 use std::process::{Child, ChildStdin, ChildStdout, Command, Stdio};
 
 pub trait Peer {
-    /// Makes the call. An error says that bytes around the slices were touched, or that the library is gone.
-    fn make(&mut self, request: &Request) -> Result<Reply, String>;
+    /// Makes the call in this memory and gives the four numbers. An error says that the library is gone.
+    fn call(&mut self, request: &Request, arena: &mut Arena) -> Result<[u64; 4], String>;
+
+    /// Makes the call. An error says that memory around the slices was touched, or that the library is gone.
+    fn make(&mut self, request: &Request) -> Result<Reply, String> {
+        let mut arena = Arena::of(request);
+        let answer = self.call(request, &mut arena)?;
+        arena.reply(request, answer)
+    }
 }
 
 pub struct Bridge {
@@ -24,82 +32,38 @@ impl Bridge {
         Ok(Bridge { child, to, from })
     }
 
-    fn send(&mut self, request: &Request) -> io::Result<()> {
-        self.word(request.call as u64)?;
-        for slice in &request.slices {
-            let length = match slice {
-                Slice::Words(words) => words.len(),
-                Slice::Bytes(bytes) => bytes.len(),
-            };
-            self.word(length as u64)?;
+    fn word(&mut self, word: usize) -> io::Result<()> {
+        self.to.write_all(&(word as u64).to_ne_bytes())
+    }
+
+    fn send(&mut self, request: &Request, arena: &Arena) -> io::Result<()> {
+        self.word(request.call as usize)?;
+        for (slice, &start) in request.slices.iter().zip(&arena.starts) {
+            self.word(start)?;
+            self.word(slice.len())?;
         }
-        for slice in &request.slices {
-            match slice {
-                Slice::Words(words) => {
-                    for &word in words {
-                        self.word(word)?;
-                    }
-                }
-                Slice::Bytes(bytes) => {
-                    self.to.write_all(bytes)?;
-                    self.to.write_all(&[0; 8][..filling(bytes.len())])?;
-                }
-            }
-        }
+        self.word(arena.words.len())?;
+        self.to.write_all(arena.bytes())?;
         self.to.flush()
     }
 
-    fn word(&mut self, word: u64) -> io::Result<()> {
-        self.to.write_all(&word.to_le_bytes())
-    }
-
-    fn taken(&mut self) -> io::Result<u64> {
-        let mut bytes = [0; 8];
-        self.from.read_exact(&mut bytes)?;
-        Ok(u64::from_le_bytes(bytes))
-    }
-
-    fn receive(&mut self, request: &Request) -> io::Result<(bool, Reply)> {
-        let clean = self.taken()? == 1;
+    fn receive(&mut self, arena: &mut Arena) -> io::Result<[u64; 4]> {
         let mut answer = [0; 4];
         for number in &mut answer {
-            *number = self.taken()?;
+            let mut bytes = [0; 8];
+            self.from.read_exact(&mut bytes)?;
+            *number = u64::from_ne_bytes(bytes);
         }
-        let mut slices = Vec::new();
-        for slice in &request.slices {
-            slices.push(match slice {
-                Slice::Words(words) => {
-                    let mut now = Vec::with_capacity(words.len());
-                    for _ in words {
-                        now.push(self.taken()?);
-                    }
-                    Slice::Words(now)
-                }
-                Slice::Bytes(bytes) => {
-                    let mut now = vec![0; bytes.len() + filling(bytes.len())];
-                    self.from.read_exact(&mut now)?;
-                    now.truncate(bytes.len());
-                    Slice::Bytes(now)
-                }
-            });
-        }
-        Ok((clean, Reply { answer, slices }))
+        self.from.read_exact(arena.bytes_mut())?;
+        Ok(answer)
     }
-}
-
-/// Bytes up to a whole word.
-fn filling(bytes: usize) -> usize {
-    (8 - bytes % 8) % 8
 }
 
 impl Peer for Bridge {
-    fn make(&mut self, request: &Request) -> Result<Reply, String> {
-        let gone = |e: io::Error| format!("the bridge does not answer: {e}");
-        self.send(request).map_err(gone)?;
-        match self.receive(request).map_err(gone)? {
-            (true, reply) => Ok(reply),
-            (false, _) => Err("memory around a slice was written".to_string()),
-        }
+    fn call(&mut self, request: &Request, arena: &mut Arena) -> Result<[u64; 4], String> {
+        let gone = |e: io::Error| format!("no answer from the bridge: {e}");
+        self.send(request, arena).map_err(gone)?;
+        self.receive(arena).map_err(gone)
     }
 }
 
@@ -116,76 +80,62 @@ pub use linked::Linked;
 #[cfg(feature = "linked")]
 mod linked {
     use super::Peer;
-    use crate::call::{Call, Reply, Request, Slice};
-
-    /// Elements before and behind each slice that no call may touch.
-    const GUARD: usize = 8;
+    use crate::arena::Arena;
+    use crate::call::{Call, Request};
+    use apfelruder::raw::Answer;
 
     pub struct Linked;
 
-    fn guarded<T: Copy>(content: &[T], guard: T) -> Vec<T> {
-        let mut all = vec![guard; GUARD];
-        all.extend_from_slice(content);
-        all.resize(content.len() + 2 * GUARD, guard);
-        all
-    }
-
-    fn inside<T>(all: &mut [T]) -> &mut [T] {
-        let end = all.len() - GUARD;
-        &mut all[GUARD..end]
-    }
-
-    fn stripped<T: Copy + PartialEq>(all: &[T], guard: T) -> Option<Vec<T>> {
-        let end = all.len() - GUARD;
-        let clean = all[..GUARD].iter().chain(&all[end..]).all(|&g| g == guard);
-        clean.then(|| all[GUARD..end].to_vec())
-    }
-
-    const WORD: u64 = 0xa5a5_a5a5_a5a5_a5a5;
-    const BYTE: u8 = 0xa5;
-
     impl Peer for Linked {
-        fn make(&mut self, request: &Request) -> Result<Reply, String> {
-            let mut words: Vec<Vec<u64>> = Vec::new();
-            let mut bytes: Vec<Vec<u8>> = Vec::new();
-            for slice in &request.slices {
-                match slice {
-                    Slice::Words(content) => words.push(guarded(content, WORD)),
-                    Slice::Bytes(content) => bytes.push(guarded(content, BYTE)),
-                }
+        fn call(&mut self, request: &Request, arena: &mut Arena) -> Result<[u64; 4], String> {
+            let row = Row { base: arena.words.as_mut_ptr(), starts: &arena.starts, request };
+            let answer = call(request.call, &row).ok_or("this program was built without the call")?;
+            Ok([answer.code, answer.operand, answer.place, answer.count])
+        }
+    }
+
+    /// The slices of a call in its memory.
+    struct Row<'a> {
+        base: *mut u64,
+        starts: &'a [usize],
+        request: &'a Request,
+    }
+
+    #[allow(dead_code)]
+    impl Row<'_> {
+        fn lent<T>(&self, i: usize) -> &[T] {
+            // SAFETY: the arena has room for the slice at its start, and outlives the call; words start at whole words.
+            unsafe {
+                std::slice::from_raw_parts(self.base.byte_add(self.starts[i]).cast(), self.request.slices[i].len())
             }
-            let answer = call(request.call, &mut words, &mut bytes)?;
-            let touched = || "memory around a slice was written".to_string();
-            let (mut words, mut bytes) = (words.into_iter(), bytes.into_iter());
-            let mut slices = Vec::new();
-            for slice in &request.slices {
-                slices.push(match slice {
-                    Slice::Words(_) => Slice::Words(stripped(&words.next().unwrap(), WORD).ok_or_else(touched)?),
-                    Slice::Bytes(_) => Slice::Bytes(stripped(&bytes.next().unwrap(), BYTE).ok_or_else(touched)?),
-                });
+        }
+
+        #[allow(clippy::mut_from_ref)]
+        fn out<T>(&self, i: usize) -> &mut [T] {
+            // SAFETY: as for lent; outputs overlap no other slice, and each is taken once a call.
+            unsafe {
+                std::slice::from_raw_parts_mut(self.base.byte_add(self.starts[i]).cast(), self.request.slices[i].len())
             }
-            Ok(Reply { answer: [answer.code, answer.operand, answer.place, answer.count], slices })
         }
     }
 
     #[allow(unused_variables)]
-    fn call(call: Call, words: &mut [Vec<u64>], bytes: &mut [Vec<u8>]) -> Result<apfelruder::raw::Answer, String> {
+    fn call(call: Call, row: &Row) -> Option<Answer> {
         #[allow(unused_imports)]
         use apfelruder::raw;
-        match (call, words, bytes) {
+        match call {
             #[cfg(feature = "split")]
-            (Call::Split, [t, p, l, w], []) => Ok(raw::split(inside(t), inside(p), inside(l), inside(w))),
+            Call::Split => Some(raw::split(row.lent(0), row.out(1), row.out(2), row.out(3))),
             #[cfg(feature = "multiply")]
-            (Call::Multiply, [a, b, out], []) => Ok(raw::multiply(inside(a), inside(b), inside(out))),
+            Call::Multiply => Some(raw::multiply(row.lent(0), row.lent(1), row.out(2))),
             #[cfg(feature = "same_products")]
-            (Call::SameProducts, [a, d, b, c], []) => {
-                Ok(raw::same_products(inside(a), inside(d), inside(b), inside(c)))
-            }
+            Call::SameProducts => Some(raw::same_products(row.lent(0), row.lent(1), row.lent(2), row.lent(3))),
             #[cfg(feature = "read")]
-            (Call::Read, [out], [block]) => Ok(raw::read(inside(block), inside(out))),
+            Call::Read => Some(raw::read(row.lent(0), row.out(1))),
             #[cfg(feature = "write")]
-            (Call::Write, [t], [out]) => Ok(raw::write(inside(t), inside(out))),
-            _ => Err(format!("this program was built without the call {}", call.name())),
+            Call::Write => Some(raw::write(row.lent(0), row.out(1))),
+            #[allow(unreachable_patterns)]
+            _ => None,
         }
     }
 }

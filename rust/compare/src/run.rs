@@ -1,37 +1,46 @@
-//! One comparison: every call goes to the library and is held to what it must give; the calls are counted by family.
-use crate::call::{independently, Call, Reply, Request};
+//! One comparison: every call goes to the library and to the independent program, and what comes back is held against
+//! each other; the calls are counted by family.
+use crate::call::{independently, Call, Expected, Request};
 use crate::peer::Peer;
 use crate::random::Random;
+use crate::report::{self, Said};
+use std::collections::BTreeSet;
 use std::time::{Duration, Instant};
 
-/// Where the right answer comes from.
+/// What the library is held against.
 pub enum Oracle {
     /// The independent program.
     Independent,
-    /// The way in which the input was made, or document 01's own words.
-    Known(Reply),
+    /// The way in which the input was made, or the rules' own words.
+    Known(Expected),
     /// Both, which must agree.
-    Both(Reply),
+    Both(Expected),
 }
 
-struct Family {
-    name: &'static str,
-    calls: [u64; 5],
-    accepted: u64,
-    took: Duration,
+pub struct Family {
+    pub name: &'static str,
+    pub calls: [u64; 5],
+    pub accepted: u64,
+    pub took: Duration,
 }
+
+/// A refusal: call, code and operand.
+pub type Refusal = (Call, u64, u64);
 
 pub struct Run {
     peer: Box<dyn Peer>,
     calls: Vec<Call>,
     families: Vec<Family>,
+    refusals: BTreeSet<Refusal>,
     began: Instant,
+    made: usize,
     pub random: Random,
 }
 
 impl Run {
     pub fn new(peer: Box<dyn Peer>, calls: Vec<Call>, seed: u64) -> Run {
-        Run { peer, calls, families: Vec::new(), began: Instant::now(), random: Random::new(seed) }
+        let (families, refusals) = (Vec::new(), BTreeSet::new());
+        Run { peer, calls, families, refusals, began: Instant::now(), made: 0, random: Random::new(seed) }
     }
 
     pub fn has(&self, call: Call) -> bool {
@@ -56,76 +65,74 @@ impl Run {
         self.began = Instant::now();
     }
 
+    /// Where the comparison stands, for a report: the family, and how many calls were compared before.
+    pub fn place(&self) -> String {
+        format!("\"{}\", after {} calls", self.families.last().map_or("", |f| f.name), self.made)
+    }
+
     /// Ends this program at the first difference.
-    pub fn check(&mut self, request: Request, oracle: Oracle) {
+    pub fn check(&mut self, mut request: Request, oracle: Oracle) {
         if !self.has(request.call) {
             return;
         }
-        let right = match oracle {
-            Oracle::Independent => independently(&request),
-            Oracle::Known(reply) => reply,
-            Oracle::Both(reply) => {
-                let other = independently(&request);
-                if other != reply {
-                    self.difference("the independent program is wrong", &request, &reply, &Ok(other));
-                }
-                reply
-            }
-        };
-        let got = self.peer.make(&request);
-        if got.as_ref() != Ok(&right) {
-            self.difference("the library is wrong", &request, &right, &got);
+        // Every remainder comes, whatever the rhythm of the calls.
+        request.skew = (self.made * 7 + self.made / 8) % 8;
+        let mut said = vec![Said::by("the library", report::caught(|| self.peer.make(&request)))];
+        if !matches!(oracle, Oracle::Known(_)) {
+            said.push(Said::by("the independent program", report::caught(|| Ok(independently(&request)))));
         }
+        if let Oracle::Known(expected) | Oracle::Both(expected) = oracle {
+            said.push(Said::by("how the input was made", report::caught(|| Ok(expected.reply(&request)))));
+        }
+        if said.iter().any(|s| s.what.is_err() || s.what != said[0].what) {
+            report::difference(&self.place(), &request, &said);
+        }
+        self.count(&request, &said[0]);
+    }
+
+    fn count(&mut self, request: &Request, said: &Said) {
+        let answer = said.what.as_ref().map_or([0; 4], |reply| reply.answer);
+        self.made += 1;
         let family = self.families.last_mut().expect("a family is open");
         family.calls[request.call as usize] += 1;
-        family.accepted += (right.answer[0] == 0) as u64;
-    }
-
-    fn difference(&self, what: &str, request: &Request, right: &Reply, got: &Result<Reply, String>) -> ! {
-        let family = self.families.last().map_or("", |f| f.name);
-        println!("DIFFERENCE in \"{family}\", call {}: {what}", request.call.name());
-        println!("call:     {:?}", request.slices);
-        println!("expected: {:?} {:?}", right.answer, right.slices);
-        match got {
-            Ok(reply) => println!("came:     {:?} {:?}", reply.answer, reply.slices),
-            Err(error) => println!("came:     {error}"),
+        family.accepted += (answer[0] == 0) as u64;
+        if answer[0] != 0 {
+            self.refusals.insert((request.call, answer[0], answer[1]));
         }
-        std::process::exit(1)
     }
 
-    /// Prints what was compared.
-    pub fn report(&mut self) {
+    /// What the independent program makes of a list, for the making of a case. A panic is a difference.
+    pub fn asked<T>(&self, what: &str, list: &[u64], ask: impl FnOnce(&[u64]) -> T) -> T {
+        match report::caught(|| Ok(ask(list))) {
+            Ok(made) => made,
+            Err(panic) => report::no_case(&self.place(), &format!("{what} of {list:?}"), &panic),
+        }
+    }
+
+    /// Prints what was compared. An error names refusals of RULES 5.3 that no call was given.
+    pub fn report(&mut self) -> Result<(), String> {
         self.close();
-        println!(
-            "{:<44}{:>9}{:>9}{:>9}{:>9}{:>9}{:>10}{:>7}",
-            "family", "split", "multiply", "same", "read", "write", "accepted", "s"
-        );
-        let mut sum = [0; 5];
-        for f in &self.families {
-            let total: u64 = f.calls.iter().sum();
-            if total == 0 {
-                continue;
-            }
-            println!(
-                "{:<44}{:>9}{:>9}{:>9}{:>9}{:>9}{:>9}%{:>7.1}",
-                f.name,
-                f.calls[0],
-                f.calls[1],
-                f.calls[2],
-                f.calls[3],
-                f.calls[4],
-                100 * f.accepted / total,
-                f.took.as_secs_f64()
-            );
-            for (all, one) in sum.iter_mut().zip(f.calls) {
-                *all += one;
-            }
+        report::table(&self.families);
+        let missing: Vec<String> = refusals()
+            .filter(|refusal| self.has(refusal.0) && !self.refusals.contains(refusal))
+            .map(|(call, code, operand)| format!("{} {code} operand {operand}", call.name()))
+            .collect();
+        if !missing.is_empty() {
+            return Err(format!("no call was refused with: {}", missing.join(", ")));
         }
-        let took: f64 = self.families.iter().map(|f| f.took.as_secs_f64()).sum();
-        println!(
-            "{:<44}{:>9}{:>9}{:>9}{:>9}{:>9}{:>10}{:>7.1}",
-            "all", sum[0], sum[1], sum[2], sum[3], sum[4], "", took
-        );
-        println!("compared {} calls, no difference", sum.iter().sum::<u64>());
+        println!("compared {} calls, {} kinds of refusal among them, no difference", self.made, self.refusals.len());
+        Ok(())
     }
+}
+
+/// Every refusal that RULES 5.3 has.
+fn refusals() -> impl Iterator<Item = Refusal> {
+    let one = |call: Call, codes: &'static [u64]| codes.iter().map(move |&code| (call, code, 1));
+    let lists = |call: Call, n: u64| (1..=n).flat_map(move |operand| [(call, 2, operand), (call, 3, operand)]);
+    one(Call::Split, &[1, 2, 3, 6, 7])
+        .chain(lists(Call::Multiply, 2))
+        .chain([4, 5, 6].map(|code| (Call::Multiply, code, 0)))
+        .chain(lists(Call::SameProducts, 4))
+        .chain(one(Call::Read, &[2, 3, 6, 8, 9, 10, 11, 12, 13]))
+        .chain(one(Call::Write, &[2, 3, 6]))
 }

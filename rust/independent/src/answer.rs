@@ -1,4 +1,4 @@
-//! The four numbers, and the checks that several calls make.
+//! The four numbers (RULES 5.1), and the checks that several calls make.
 
 #[derive(Clone, Copy, Debug, PartialEq, Eq)]
 pub struct Answer {
@@ -22,7 +22,7 @@ impl Answer {
     }
 }
 
-/// 2 for each operand, then 3 for each.
+/// Code 2 of every operand in turn, and only then code 3 of every operand (RULES 5.3).
 pub fn check_lists(lists: &[&[u64]]) -> Result<(), Answer> {
     for (i, list) in lists.iter().enumerate() {
         if list.len() > crate::TERMS {

@@ -1,4 +1,4 @@
-//! The packed block, bit by bit.
+//! The packed block (RULES 4), bit by bit.
 use crate::answer::{check_lists, Answer};
 
 fn number(bits: &[bool]) -> u64 {
@@ -11,7 +11,7 @@ fn push(bits: &mut Vec<bool>, value: u64, width: usize) {
     }
 }
 
-/// One more than the highest variable, 0 if there is none.
+/// n of a list (RULES 1.4).
 fn width_of(terms: &[u64]) -> usize {
     (0..64).rev().find(|&i| terms.iter().any(|t| t >> i & 1 == 1)).map_or(0, |i| i + 1)
 }

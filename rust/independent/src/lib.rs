@@ -1,7 +1,7 @@
-//! A second implementation of document 01, for comparison only: written from the document, by other methods than the
-//! proved library, with no code of it. Plain rather than fast.
+//! A second implementation of docs/RULES.md, for comparison only: by other methods than the proved library, with no code
+//! of it. Plain rather than fast.
 //!
-//! - split puts y apart from x where the two products of document 001's rule, multiplied out, agree, and checks
+//! - split puts y apart from x where the two products of the papers' rule (RULES 8), multiplied out, agree, and checks
 //!   what it found by multiplying the parts again;
 //! - same products multiplies both sides out;
 //! - multiply makes all unions and sorts them;

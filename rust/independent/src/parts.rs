@@ -1,4 +1,4 @@
-//! Split by document 001's rule: y lies in another part than x exactly if AD = BC.
+//! Split by the papers' rule (RULES 8): y lies in another part than x exactly if AD = BC.
 use crate::answer::{check_lists, Answer};
 use crate::products::{agree, product};
 use std::collections::BTreeSet;
@@ -30,17 +30,17 @@ pub fn split(terms: &[u64], part_terms: &mut [u64], part_lengths: &mut [u64], wo
     Answer::accepted(parts.len())
 }
 
-/// Clear the other bits in every term and keep each result once.
+/// The projection onto a set of variables (RULES 2.2).
 fn projection(list: &[u64], onto: u64) -> Vec<u64> {
     list.iter().map(|t| t & onto).collect::<BTreeSet<u64>>().into_iter().collect()
 }
 
-/// The terms that hold the variable, with it cleared.
+/// The derivative by a variable (RULES 8.1).
 fn derivative(list: &[u64], x: u32) -> Vec<u64> {
     list.iter().filter(|&t| t >> x & 1 == 1).map(|t| t ^ 1 << x).collect()
 }
 
-/// The terms that do not hold it.
+/// The list at zero of a variable (RULES 8.1).
 fn at_zero(list: &[u64], x: u32) -> Vec<u64> {
     list.iter().copied().filter(|t| t >> x & 1 == 0).collect()
 }
@@ -73,7 +73,7 @@ pub fn parts_of(list: &[u64]) -> Vec<Vec<u64>> {
     parts
 }
 
-/// The parts by document 01's definition alone: the smallest set of variables with the lowest one along which the list
+/// The parts by their definition alone (RULES 2.5): the smallest set of variables with the lowest one along which the list
 /// is the product of its projections, found by trying all sets. For lists of few variables.
 pub fn parts_by_counting(list: &[u64]) -> Vec<Vec<u64>> {
     let all = list.iter().fold(0, |v, t| v | t);

@@ -1,4 +1,4 @@
-//! The printed split.
+//! The printed split (RULES 6).
 use crate::{blocks, parts};
 
 /// What the program `split` prints for this standard input.

@@ -1,6 +1,6 @@
 //! Blocks: written and read again, cut off at every byte, with bytes behind, and with every bit turned.
-use super::block_bytes;
-use crate::call::Request;
+use super::block_of;
+use crate::call::{Expected, Request};
 use crate::run::{Oracle, Run};
 
 pub fn random(run: &mut Run, how_many: usize) {
@@ -20,17 +20,11 @@ fn round(run: &mut Run, terms: &[u64]) {
     let block = block_of(terms);
     let more = run.random.below(3);
     let request = Request::write(terms, run.random.bytes(block.len() + more));
-    let reply = request.accepted_bytes(&block);
-    run.check(request, Oracle::Both(reply));
+    let expected = Expected::Bytes(block.to_vec());
+    run.check(request, Oracle::Both(expected));
     let request = Request::read(&block, run.random.words(terms.len() + more));
-    let reply = request.accepted_words(terms);
-    run.check(request, Oracle::Both(reply));
-}
-
-fn block_of(terms: &[u64]) -> Vec<u8> {
-    let mut block = vec![0; block_bytes(terms)];
-    independent::write(terms, &mut block);
-    block
+    let expected = Expected::Words(terms.to_vec());
+    run.check(request, Oracle::Both(expected));
 }
 
 /// So many small blocks and, if wanted, long ones: the longest of all has 65,560 bits.
@@ -47,31 +41,36 @@ pub fn damaged(run: &mut Run, small: usize, long: bool) {
         let most = run.random.between(1, 12);
         lists.push(run.random.list(u64::MAX >> (64 - wide), most, 0));
     }
-    for terms in &lists {
-        let block = block_of(terms);
-        for length in 0..block.len() {
-            let request = Request::read(&block[..length], run.random.words(terms.len()));
-            let reply = request.refused(10, 1, 0);
-            run.check(request, if block.len() < 200 { Oracle::Both(reply) } else { Oracle::Known(reply) });
-        }
-        for more in 1..=3 {
-            let mut longer = block.clone();
-            longer.extend(run.random.bytes(more));
-            let request = Request::read(&longer, run.random.words(terms.len()));
-            let reply = request.refused(12, 1, 0);
-            run.check(request, Oracle::Both(reply));
-        }
-    }
+    lists.iter().for_each(|terms| cut(run, terms));
     run.family("blocks: every bit turned");
-    for terms in &lists {
-        let block = block_of(terms);
-        for bit in 0..8 * block.len() {
-            let mut turned = block.clone();
-            turned[bit / 8] ^= 0x80 >> (bit % 8);
-            let room = terms.len() + run.random.below(3);
-            let request = Request::read(&turned, run.random.words(room));
-            run.check(request, Oracle::Independent);
-        }
+    lists.iter().for_each(|terms| turned(run, terms));
+}
+
+fn cut(run: &mut Run, terms: &[u64]) {
+    let block = block_of(terms);
+    for length in 0..block.len() {
+        let request = Request::read(&block[..length], run.random.words(terms.len()));
+        let expected = Expected::Refused([10, 1, 0]);
+        let both = block.len() < 200 || length % 16 == 0;
+        run.check(request, if both { Oracle::Both(expected) } else { Oracle::Known(expected) });
+    }
+    for more in 1..=3 {
+        let mut longer = block.clone();
+        longer.extend(run.random.bytes(more));
+        let request = Request::read(&longer, run.random.words(terms.len()));
+        let expected = Expected::Refused([12, 1, 0]);
+        run.check(request, Oracle::Both(expected));
+    }
+}
+
+fn turned(run: &mut Run, terms: &[u64]) {
+    let block = block_of(terms);
+    for bit in 0..8 * block.len() {
+        let mut turned = block.clone();
+        turned[bit / 8] ^= 0x80 >> (bit % 8);
+        let room = terms.len() + run.random.below(3);
+        let request = Request::read(&turned, run.random.words(room));
+        run.check(request, Oracle::Independent);
     }
 }
 

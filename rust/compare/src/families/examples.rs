@@ -1,10 +1,10 @@
-//! Document 01's checked examples, with the answers that stand there.
+//! The examples of RULES 7, with the answers that stand there.
 use super::{multiply_request, split_request};
-use crate::call::Request;
+use crate::call::{Expected, Request};
 use crate::run::{Oracle, Run};
 
 pub fn all(run: &mut Run) {
-    run.family("examples of document 01");
+    run.family("examples of the rules");
     split(run);
     products(run);
     blocks(run);
@@ -29,15 +29,15 @@ fn split(run: &mut Run) {
     ];
     for (terms, parts) in accepted {
         let request = split_request(&mut run.random, &terms, 3);
-        let reply = request.split_into(&parts);
-        run.check(request, Oracle::Both(reply));
+        let expected = Expected::Parts(parts);
+        run.check(request, Oracle::Both(expected));
     }
     let refused: Vec<(Vec<u64>, [u64; 3])> =
         vec![(vec![], [1, 1, 0]), (vec![1, 1], [3, 1, 1]), (vec![2, 1], [3, 1, 1]), ((0..=1024).collect(), [2, 1, 0])];
     for (terms, [code, operand, place]) in refused {
         let request = split_request(&mut run.random, &terms, 0);
-        let reply = request.refused(code, operand, place);
-        run.check(request, Oracle::Both(reply));
+        let expected = Expected::Refused([code, operand, place]);
+        run.check(request, Oracle::Both(expected));
     }
 }
 
@@ -49,8 +49,8 @@ fn products(run: &mut Run) {
     ];
     for (lists, yes) in yes_no {
         let request = Request::same_products(lists);
-        let reply = request.said(yes);
-        run.check(request, Oracle::Both(reply));
+        let expected = Expected::Said(yes);
+        run.check(request, Oracle::Both(expected));
     }
     let low: Vec<u64> = (0..32).collect();
     let high: Vec<u64> = (0..32).map(|j| 32 * j).collect();
@@ -60,14 +60,14 @@ fn products(run: &mut Run) {
         [(&[0, 1], &[0, 2], &[0, 1, 2, 3]), (&[], &[1], &[]), (&low, &high, &cube)];
     for (a, b, out) in accepted {
         let request = multiply_request(&mut run.random, a, b, 2);
-        let reply = request.accepted_words(out);
-        run.check(request, Oracle::Both(reply));
+        let expected = Expected::Words(out.to_vec());
+        run.check(request, Oracle::Both(expected));
     }
     let refused: [(&[u64], &[u64], u64); 2] = [(&[0, 1], &[1], 4), (&low, &longer, 5)];
     for (a, b, code) in refused {
         let request = multiply_request(&mut run.random, a, b, 0);
-        let reply = request.refused(code, 0, 0);
-        run.check(request, Oracle::Both(reply));
+        let expected = Expected::Refused([code, 0, 0]);
+        run.check(request, Oracle::Both(expected));
     }
 }
 
@@ -76,11 +76,11 @@ fn blocks(run: &mut Run) {
         [(&[0x10, 0x00, 0x00], &[]), (&[0x10, 0x00, 0x01], &[0]), (&[0x10, 0x60, 0x04, 0x2a, 0xe0], &[1, 2, 5, 6])];
     for (block, terms) in pairs {
         let request = Request::read(block, run.random.words(terms.len() + 2));
-        let reply = request.accepted_words(terms);
-        run.check(request, Oracle::Both(reply));
+        let expected = Expected::Words(terms.to_vec());
+        run.check(request, Oracle::Both(expected));
         let request = Request::write(terms, run.random.bytes(block.len() + 2));
-        let reply = request.accepted_bytes(block);
-        run.check(request, Oracle::Both(reply));
+        let expected = Expected::Bytes(block.to_vec());
+        run.check(request, Oracle::Both(expected));
     }
     let refused: [(&[u8], u64, u64); 6] = [
         (&[0x10, 0x60, 0x04, 0x2a, 0xe1], 13, 0),
@@ -92,7 +92,7 @@ fn blocks(run: &mut Run) {
     ];
     for (block, code, place) in refused {
         let request = Request::read(block, run.random.words(4));
-        let reply = request.refused(code, 1, place);
-        run.check(request, Oracle::Both(reply));
+        let expected = Expected::Refused([code, 1, place]);
+        run.check(request, Oracle::Both(expected));
     }
 }

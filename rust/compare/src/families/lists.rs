@@ -1,6 +1,6 @@
 //! Split and multiply: products with known factors, near-products, irreducible lists, dense and sparse.
 use super::{in_order, multiply_request, product, split_request};
-use crate::call::Call;
+use crate::call::{Call, Expected};
 use crate::random::Random;
 use crate::run::{Oracle, Run};
 
@@ -27,9 +27,10 @@ fn factors(random: &mut Random, most_terms: usize) -> Vec<Vec<u64>> {
     found
 }
 
-/// Products of factors whose own parts the independent program finds: the parts of the product are theirs.
-pub fn products(run: &mut Run, how_many: usize, most_terms: usize, both: bool) {
-    for _ in 0..how_many {
+/// Products of factors whose own parts the independent program finds: the parts of the product are theirs. One in so many
+/// is also split by the independent program.
+pub fn products(run: &mut Run, how_many: usize, most_terms: usize, one_in: usize) {
+    for round in 0..how_many {
         let factors = factors(&mut run.random, most_terms);
         let mut parts = Vec::new();
         let mut whole = vec![0];
@@ -37,11 +38,11 @@ pub fn products(run: &mut Run, how_many: usize, most_terms: usize, both: bool) {
             let next = product(&whole, factor);
             let more = run.random.below(3);
             let request = multiply_request(&mut run.random, &whole, factor, more);
-            let reply = request.accepted_words(&next);
-            run.check(request, Oracle::Both(reply));
+            let expected = Expected::Words(next.to_vec());
+            run.check(request, Oracle::Both(expected));
             whole = next;
             if run.has(Call::Split) {
-                parts.extend(independent::parts_of(factor));
+                parts.extend(run.asked("the parts", factor, independent::parts_of));
             }
         }
         if !run.has(Call::Split) {
@@ -49,8 +50,8 @@ pub fn products(run: &mut Run, how_many: usize, most_terms: usize, both: bool) {
         }
         let more = run.random.below(3);
         let request = split_request(&mut run.random, &whole, more);
-        let reply = request.split_into(&in_order(parts));
-        run.check(request, if both { Oracle::Both(reply) } else { Oracle::Known(reply) });
+        let expected = Expected::Parts(in_order(parts));
+        run.check(request, if round % one_in == 0 { Oracle::Both(expected) } else { Oracle::Known(expected) });
     }
 }
 
@@ -116,7 +117,7 @@ pub fn dense(run: &mut Run, how_many: usize) {
     }
 }
 
-/// All lists over four variables, held to document 01's definition by trying all sets of variables.
+/// All lists over four variables, held to the definition (RULES 2.5) by trying all sets of variables.
 pub fn exhaustive(run: &mut Run) {
     run.family("all lists over 4 variables");
     if !run.has(Call::Split) {
@@ -125,8 +126,9 @@ pub fn exhaustive(run: &mut Run) {
     for chosen in 1u64..1 << 16 {
         let list: Vec<u64> = (0..16).filter(|i| chosen >> i & 1 == 1).collect();
         let request = split_request(&mut run.random, &list, 0);
-        let reply = request.split_into(&independent::parts_by_counting(&list));
-        run.check(request, Oracle::Both(reply));
+        let parts = run.asked("the parts by counting", &list, independent::parts_by_counting);
+        let expected = Expected::Parts(parts);
+        run.check(request, Oracle::Both(expected));
     }
 }
 
@@ -137,22 +139,23 @@ pub fn long(run: &mut Run) {
     }
     run.family("lists of 1,000 terms and more, known parts");
     let all: Vec<u64> = std::iter::once(0).chain((0..64).map(|i| 1 << i)).collect();
-    known(run, all.clone(), vec![all]);
+    known(run, all.clone(), vec![all], true);
     let punctured: Vec<u64> = (0..1023).collect();
-    known(run, punctured.clone(), vec![punctured]);
+    known(run, punctured.clone(), vec![punctured], true);
     for missing in [0, 1, 511, 512, 700, 1022] {
         let punctured: Vec<u64> = (0..1024).filter(|&t| t != missing).collect();
-        known(run, punctured.clone(), vec![punctured]);
+        known(run, punctured.clone(), vec![punctured], true);
     }
     let pairs: Vec<Vec<u64>> = (0..10).map(|i| vec![1 << i, 1 << (i + 20)]).collect();
-    known(run, pairs.iter().fold(vec![0], |w, p| product(&w, p)), pairs);
+    known(run, pairs.iter().fold(vec![0], |w, p| product(&w, p)), pairs, true);
     let triples: Vec<Vec<u64>> = (0..6).map(|i| vec![0, 1 << i, 1 << (i + 10)]).collect();
-    known(run, triples.iter().fold(vec![0], |w, p| product(&w, p)), triples);
-    for _ in 0..400 {
+    known(run, triples.iter().fold(vec![0], |w, p| product(&w, p)), triples, true);
+    many_parts(run);
+    for round in 0..400 {
         let (left, right) = long_factors(&mut run.random);
-        let mut parts = independent::parts_of(&left);
-        parts.extend(independent::parts_of(&right));
-        known(run, product(&left, &right), in_order(parts));
+        let mut parts = run.asked("the parts", &left, independent::parts_of);
+        parts.extend(run.asked("the parts", &right, independent::parts_of));
+        known(run, product(&left, &right), in_order(parts), round % 100 == 0);
     }
     run.family("near-products of 1,000 terms and more");
     for _ in 0..16 {
@@ -178,8 +181,23 @@ fn long_factors(random: &mut Random) -> (Vec<u64>, Vec<u64>) {
     (random.exact_list(some, a), random.exact_list(!some, b))
 }
 
-fn known(run: &mut Run, list: Vec<u64>, parts: Vec<Vec<u64>>) {
+/// As many parts as there can be, and as much room for them as they can need: variables in every term, below, above and
+/// between the variables of ten sums of two terms, or of one list that does not split.
+fn many_parts(run: &mut Run) {
+    for shift in [0, 27, 54] {
+        let others = !(1023 << shift);
+        let singles: Vec<Vec<u64>> = (0..64).filter(|i| others >> i & 1 == 1).map(|i| vec![1 << i]).collect();
+        let sums: Vec<Vec<u64>> = (0..10).map(|i| vec![0, 1 << (i + shift)]).collect();
+        let cube: Vec<u64> = (0..1024).map(|t| t << shift | others).collect();
+        known(run, cube, in_order([singles.clone(), sums].concat()), true);
+        let whole: Vec<u64> = (0..1023).map(|t| t << shift).collect();
+        let punctured = whole.iter().map(|t| t | others).collect();
+        known(run, punctured, in_order([singles, vec![whole]].concat()), true);
+    }
+}
+
+fn known(run: &mut Run, list: Vec<u64>, parts: Vec<Vec<u64>>, both: bool) {
     let request = split_request(&mut run.random, &list, 2);
-    let reply = request.split_into(&parts);
-    run.check(request, Oracle::Known(reply));
+    let expected = Expected::Parts(parts);
+    run.check(request, if both { Oracle::Both(expected) } else { Oracle::Known(expected) });
 }

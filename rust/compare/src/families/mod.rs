@@ -1,10 +1,15 @@
 //! What is compared, one module for each kind of input.
 pub mod blocks;
 pub mod examples;
+mod expected;
+pub mod kinds;
+pub mod lengths;
 pub mod lists;
 pub mod quadruples;
 pub mod refusals;
+pub mod shared;
 pub mod sizes;
+pub mod small;
 
 use crate::call::Request;
 use crate::random::Random;
@@ -36,4 +41,42 @@ pub fn product(a: &[u64], b: &[u64]) -> Vec<u64> {
 pub fn block_bytes(terms: &[u64]) -> usize {
     let n = terms.last().map_or(0, |t| 64 - t.leading_zeros() as usize);
     3 + (n * terms.len()).div_ceil(8)
+}
+
+/// The block of a list in order, bit by bit.
+pub fn block_of(terms: &[u64]) -> Vec<u8> {
+    let n = terms.last().map_or(0, |t| 64 - t.leading_zeros() as usize);
+    let mut bits = Bits::header(1, n as u64, terms.len() as u64);
+    for &term in terms {
+        bits.put(term, n);
+    }
+    bits.bytes()
+}
+
+/// Fields most significant bit first.
+pub struct Bits(pub Vec<bool>);
+
+impl Bits {
+    pub fn header(form: u64, n: u64, t: u64) -> Bits {
+        let mut bits = Bits(Vec::new());
+        bits.put(form, 4);
+        bits.put(n, 7);
+        bits.put(t, 13);
+        bits
+    }
+
+    pub fn put(&mut self, value: u64, width: usize) {
+        self.0.extend((0..width).rev().map(|i| value >> i & 1 == 1));
+    }
+
+    /// With zero bits to the end of the last byte.
+    pub fn bytes(&self) -> Vec<u8> {
+        let byte = |bits: &[bool]| (0..8).fold(0, |v, i| v << 1 | bits.get(i).copied().unwrap_or(false) as u8);
+        self.0.chunks(8).map(byte).collect()
+    }
+}
+
+/// 3, 6, 9, ..: so many terms, ascending.
+pub fn steps(t: usize) -> Vec<u64> {
+    (1..=t as u64).map(|i| 3 * i).collect()
 }

@@ -1,17 +1,17 @@
 //! Same products: four lists that agree by the way they were made, nearly agree, or are any lists at all.
 use super::product;
-use crate::call::{Call, Request};
+use crate::call::{Call, Expected, Request};
 use crate::run::{Oracle, Run};
 
 fn ask(run: &mut Run, lists: [&[u64]; 4], known: Option<bool>, both: bool) {
     let request = Request::same_products(lists);
     let oracle = match known {
         Some(yes) => {
-            let reply = request.said(yes);
+            let expected = Expected::Said(yes);
             if both {
-                Oracle::Both(reply)
+                Oracle::Both(expected)
             } else {
-                Oracle::Known(reply)
+                Oracle::Known(expected)
             }
         }
         None => Oracle::Independent,
@@ -52,7 +52,7 @@ pub fn equal(run: &mut Run, how_many: usize, wide: usize, terms: usize, both: bo
     for _ in 0..how_many {
         let [a, d, b, c] = refined(run, wide, terms);
         ask(run, [&a, &d, &b, &c], Some(true), both);
-        ask(run, [&d, &a, &c, &b], Some(true), false);
+        ask(run, [&d, &a, &c, &b], Some(true), both);
     }
 }
 
@@ -108,8 +108,8 @@ pub fn long(run: &mut Run) {
         for at in [0, 500, 1023] {
             let mut other = list.clone();
             other.remove(at);
-            ask(run, [&list, &list, &list, &other], Some(false), false);
-            ask(run, [&list, &other, &other, &list], Some(true), false);
+            ask(run, [&list, &list, &list, &other], Some(false), true);
+            ask(run, [&list, &other, &other, &list], Some(true), true);
         }
     }
     for round in 0..12 {

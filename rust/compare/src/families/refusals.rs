@@ -1,6 +1,8 @@
-//! Every refusal, and every set of faults that can come together: the check that document 01 names first must win.
-use super::{block_bytes, multiply_request};
-use crate::call::Request;
+//! Every refusal, and every set of faults that can come together: the check that comes first in RULES 5.3 must win.
+use super::expected::held;
+use super::{block_bytes, block_of, multiply_request, split_request, steps, Bits};
+use crate::call::{Expected, Request};
+use crate::random::Random;
 use crate::run::{Oracle, Run};
 
 pub fn all(run: &mut Run) {
@@ -19,21 +21,17 @@ fn has(faults: u32, i: u32) -> bool {
     faults >> i & 1 == 1
 }
 
-/// 0, 3, 6, .. with the term at this place set back to the one before it or below it.
+/// The list with the term at this place set back to the one before it or below it.
 fn spoiled(mut list: Vec<u64>, place: usize, equal: bool) -> Vec<u64> {
     list[place] = list[place - 1] - !equal as u64;
     list
 }
 
-fn steps(t: usize) -> Vec<u64> {
-    (1..=t as u64).map(|i| 3 * i).collect()
-}
-
 fn check(run: &mut Run, request: Request, refusal: Option<[u64; 3]>) {
     match refusal {
         Some([code, operand, place]) => {
-            let reply = request.refused(code, operand, place);
-            run.check(request, Oracle::Both(reply));
+            let expected = Expected::Refused([code, operand, place]);
+            run.check(request, Oracle::Both(expected));
         }
         None => run.check(request, Oracle::Independent),
     }
@@ -134,7 +132,7 @@ fn multiply_limits(run: &mut Run) {
             }
             let b: Vec<u64> = (0..bn as u64).map(|i| i << 12).collect();
             let large = an * bn > 1024;
-            if an % 16 == 1 || an < 20 || large {
+            if an % 16 == 1 || an < 20 || large || an * bn == 1024 {
                 let request = multiply_request(&mut run.random, &a, &b, 0);
                 check(run, request, large.then_some([5, 0, 0]));
                 let request = Request::multiply(&a, &b, run.random.words((an * bn).min(1024) - 1));
@@ -166,23 +164,10 @@ fn same_products(run: &mut Run) {
     }
 }
 
-/// Fields most significant bit first.
-struct Bits(Vec<bool>);
-
-impl Bits {
-    fn put(&mut self, value: u64, width: usize) {
-        self.0.extend((0..width).rev().map(|i| value >> i & 1 == 1));
-    }
-
-    fn bytes(&self) -> Vec<u8> {
-        self.0.chunks(8).map(|c| c.iter().fold(0, |v, &b| v << 1 | b as u8)).collect()
-    }
-}
-
 fn read(run: &mut Run) {
     for length in 0..3 {
         for first in 0..=255 {
-            let bytes = vec![first, 0xff, 0xff];
+            let bytes = [first, 0xff, 0xff];
             let request = Request::read(&bytes[..length], run.random.words(2));
             check(run, request, Some([10, 1, 0]));
         }
@@ -194,19 +179,14 @@ fn read(run: &mut Run) {
     }
 }
 
-fn read_with(run: &mut Run, faults: u32, variant: usize) {
-    let (form, wide, many) = (has(faults, 0), has(faults, 1), has(faults, 2));
-    let (short, extra, room) = (has(faults, 3), has(faults, 4), has(faults, 5));
+/// A block with these faults in it, Room excepted, and the number of terms that its header names.
+fn faulty_block(faults: u32, variant: usize) -> (Vec<u8>, usize) {
+    let (form, wide, many, short, extra) =
+        (has(faults, 0), has(faults, 1), has(faults, 2), has(faults, 3), has(faults, 4));
     let (order, misfit, pad) = (has(faults, 6), has(faults, 7), has(faults, 8));
-    if short && extra {
-        return;
-    }
     let n = if wide { [65, 66, 70, 127][variant] } else { [10, 11, 13, 9][variant] };
     let t = if many { [1025, 1026, 1030, 1025][variant] } else { 7 };
-    let mut bits = Bits(Vec::new());
-    bits.put(if form { [0, 2, 9, 15][variant] } else { 1 }, 4);
-    bits.put(n, 7);
-    bits.put(t, 13);
+    let mut bits = Bits::header(if form { [0, 2, 9, 15][variant] } else { 1 }, n, t);
     let narrow = n.min(64) as usize - misfit as usize;
     let mut terms: Vec<u64> = (0..t).map(|i| 5 * i).collect();
     *terms.last_mut().unwrap() = 1u64 << (narrow - 1) | 0xff;
@@ -217,33 +197,27 @@ fn read_with(run: &mut Run, faults: u32, variant: usize) {
         bits.put(0, n as usize - n.min(64) as usize);
         bits.put(term, n.min(64) as usize);
     }
-    if pad && bits.0.len() % 8 != 0 {
-        bits.put(1, 8 - bits.0.len() % 8);
-    }
+    let missing = (8 - bits.0.len() % 8) % 8;
+    bits.put(pad as u64, missing);
     let mut bytes = bits.bytes();
-    let last = bits.0.len() % 8;
-    if last != 0 {
-        *bytes.last_mut().unwrap() <<= 8 - last;
-    }
     if short {
         bytes.truncate(bytes.len() - 1 - variant);
     }
     if extra {
         bytes.extend(vec![variant as u8; 1 + variant]);
     }
-    let request = Request::read(&bytes, run.random.words(t as usize - room as usize));
-    let refusal = [
-        form.then_some([8, 1, 0]),
-        wide.then_some([9, 1, 0]),
-        many.then_some([2, 1, 0]),
-        short.then_some([10, 1, 0]),
-        extra.then_some([12, 1, 0]),
-        room.then_some([6, 1, 0]),
-        order.then_some([3, 1, 3]),
-        misfit.then_some([11, 1, 0]),
-        pad.then_some([13, 1, 0]),
-    ];
-    check(run, request, refusal.into_iter().flatten().next());
+    (bytes, t as usize)
+}
+
+fn read_with(run: &mut Run, faults: u32, variant: usize) {
+    if has(faults, 3) && has(faults, 4) {
+        return;
+    }
+    let (bytes, t) = faulty_block(faults, variant);
+    let request = Request::read(&bytes, run.random.words(t - has(faults, 5) as usize));
+    let in_order = [8, 9, 2, 10, 12, 6, 3, 11, 13];
+    let first = (0..9u32).find(|&i| has(faults, i)).map(|i| in_order[i as usize]);
+    check(run, request, first.map(|code| [code, 1, if code == 3 { 3 } else { 0 }]));
 }
 
 fn write(run: &mut Run) {
@@ -273,7 +247,7 @@ fn places(run: &mut Run) {
                 terms[place + 3] = 0;
             }
             let p = place as u64;
-            let request = super::split_request(&mut run.random, &terms, 0);
+            let request = split_request(&mut run.random, &terms, 0);
             check(run, request, Some([3, 1, p]));
             let request = Request::write(&terms, run.random.bytes(9000));
             check(run, request, Some([3, 1, p]));
@@ -289,4 +263,77 @@ fn places(run: &mut Run) {
             }
         }
     }
+}
+
+/// Any call with any faults, each of its operands and buffers by chance.
+pub fn random(run: &mut Run, how_many: usize) {
+    run.family("refusals by chance");
+    for _ in 0..how_many {
+        let [a, b, c, d] = [(); 4].map(|()| any_list(&mut run.random));
+        match run.random.below(5) {
+            0 => {
+                let rooms = [a.len() + 64, 64, 4 * a.len()].map(|need| any_room(&mut run.random, need));
+                let [p, l, w] = rooms.map(|n| run.random.words(n));
+                held(run, Request::split(&a, p, l, w));
+            }
+            1 => {
+                let b: Vec<u64> = if run.random.chance(4) { b } else { b.iter().map(|t| t << 40).collect() };
+                let room = any_room(&mut run.random, (a.len() * b.len()).min(1100));
+                let out = run.random.words(room);
+                held(run, Request::multiply(&a, &b, out));
+            }
+            2 => held(run, Request::same_products([&a, &b, &c, &d])),
+            3 => {
+                let room = any_room(&mut run.random, block_bytes(&a));
+                let out = run.random.bytes(room);
+                held(run, Request::write(&a, out));
+            }
+            _ => any_block(run, &a),
+        }
+    }
+}
+
+/// Mostly short and in order; else out of order, too long, or both.
+fn any_list(random: &mut Random) -> Vec<u64> {
+    let few = random.between(0, 12);
+    let t = match random.below(40) {
+        0 => 0,
+        1 => 1024,
+        2 => random.between(1025, 1100),
+        3 if random.chance(8) => (1 << random.between(11, 16)) + random.below(1026),
+        _ => few,
+    };
+    let mut list = steps(t);
+    if t > 1 && random.chance(5) {
+        let place = random.between(1, t - 1);
+        list[place] = list[random.below(place)];
+    }
+    list
+}
+
+/// What is needed, a little more, or too little.
+fn any_room(random: &mut Random, need: usize) -> usize {
+    match random.below(8) {
+        0 => random.below(need + 1),
+        1 => need.saturating_sub(1),
+        2 => need + random.below(9),
+        _ => need,
+    }
+}
+
+/// The block of the list as it is, terms out of order too, or with faults.
+fn any_block(run: &mut Run, list: &[u64]) {
+    let (faults, variant) = (run.random.below(512) & run.random.below(512), run.random.below(4));
+    read_with(run, faults as u32, variant);
+    if list.len() > 1024 {
+        return;
+    }
+    let mut bytes = block_of(list);
+    if run.random.chance(4) {
+        let at = run.random.below(bytes.len());
+        bytes[at] ^= 1 << run.random.below(8);
+    }
+    let room = any_room(&mut run.random, list.len());
+    let request = Request::read(&bytes, run.random.words(room));
+    run.check(request, Oracle::Independent);
 }

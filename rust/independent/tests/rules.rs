@@ -1,4 +1,4 @@
-//! The independent program against itself: document 01's words, and split by the definition of splitting, trying all sets.
+//! The independent program against itself: examples of RULES 6 and 7, and split by the definition of splitting, trying all sets.
 use independent::{parts_by_counting, parts_of, printed_split, read, same_products, write};
 
 #[test]

@@ -1,0 +1,66 @@
+//! The refusal that the order of checks (RULES 5.3) asks for, read off the slices of a call.
+use super::block_bytes;
+use crate::call::{Call, Expected, Request, Slice};
+use crate::run::{Oracle, Run};
+
+/// Code, operand, place.
+type Refusal = [u64; 3];
+
+/// Holds a call to the order of checks where that refuses it, and to the independent program always.
+pub fn held(run: &mut Run, request: Request) {
+    match refusal(&request) {
+        Some([code, operand, place]) => {
+            let expected = Expected::Refused([code, operand, place]);
+            run.check(request, Oracle::Both(expected));
+        }
+        None => run.check(request, Oracle::Independent),
+    }
+}
+
+fn refusal(request: &Request) -> Option<Refusal> {
+    use Slice::{Bytes, Words};
+    match (request.call, &request.slices[..]) {
+        (Call::Split, [Words(t), Words(p), Words(l), Words(w)]) => split(t, [p.len(), l.len(), w.len()]),
+        (Call::Multiply, [Words(a), Words(b), Words(out)]) => multiply(a, b, out.len()),
+        (Call::SameProducts, [Words(a), Words(d), Words(b), Words(c)]) => unfit(&[a, d, b, c]),
+        (Call::Write, [Words(t), Bytes(out)]) => {
+            unfit(&[t]).or_else(|| (out.len() < block_bytes(t)).then_some([6, 1, 0]))
+        }
+        _ => None,
+    }
+}
+
+/// 2 for each operand, then 3 for each.
+fn unfit(lists: &[&[u64]]) -> Option<Refusal> {
+    let many = lists.iter().zip(1..).find(|(list, _)| list.len() > 1024);
+    let unordered = || lists.iter().zip(1..).find_map(|(list, operand)| Some([3, operand, first_unordered(list)?]));
+    many.map(|(_, operand)| [2, operand, 0]).or_else(unordered)
+}
+
+fn first_unordered(list: &[u64]) -> Option<u64> {
+    for i in 1..list.len() {
+        if list[i - 1] >= list[i] {
+            return Some(i as u64);
+        }
+    }
+    None
+}
+
+fn split(terms: &[u64], [part_terms, part_lengths, work]: [usize; 3]) -> Option<Refusal> {
+    let t = terms.len();
+    if t == 0 {
+        return Some([1, 1, 0]);
+    }
+    unfit(&[terms])
+        .or_else(|| (part_terms < t + 64 || part_lengths < 64).then_some([6, 1, 0]))
+        .or_else(|| (work < 4 * t).then_some([7, 1, 0]))
+}
+
+fn multiply(a: &[u64], b: &[u64], room: usize) -> Option<Refusal> {
+    let shared = || (0..64).any(|x| [a, b].iter().all(|list| list.iter().any(|t| t >> x & 1 == 1)));
+    let need = a.len() * b.len();
+    unfit(&[a, b])
+        .or_else(|| shared().then_some([4, 0, 0]))
+        .or_else(|| (need > 1024).then_some([5, 0, 0]))
+        .or_else(|| (room < need).then_some([6, 0, 0]))
+}
