@@ -1,4 +1,4 @@
-/* Source document 000, algorithm 3 (FDSZ) with k = 63 and two points, and algorithm 5 for the multiplication, as the paper
+/* The first paper's algorithm 3 (FDSZ) with k = 63 and two points, and its algorithm 5 for the multiplication, as the paper
  * gives them. It may err, with a probability that the paper bounds. */
 #include "peers.h"
 

@@ -1,8 +1,10 @@
 /* The benchmark: each call on each input family, by the proved library where it is linked in (-DHAVE_READ, ..), by plain
- * C of the same method, by the published methods, and by FLINT where it is installed. Usage: bench [CALLS [SVG]]. */
+ * C of the same method, by the published methods, and by FLINT where it is installed. Usage: bench CALL.., where a CALL is
+ * split, multiply, same_products, read or write and gives its table; or bench growth SVG. bench/run builds and calls it. */
 #include "families.h"
 #include "measure.h"
 #include "peers.h"
+#include "picture.h"
 
 #include <math.h>
 #include <stdio.h>
@@ -12,7 +14,8 @@
 typedef struct {
     const char *name;
     void (*go)(void *);
-    int slow; /* measured on the first input of a family alone */
+    int slow;           /* in the tables measured on the first input of a family alone */
+    const char *colour; /* of its line in the picture, NULL if it has none */
 } method;
 
 #define METHOD(name, body)                                                                                            \
@@ -64,59 +67,69 @@ METHOD(same_flint, flint_same(&j->a, &j->d, &j->b, &j->c))
 /* The methods of each call; the first is what the others are held to. */
 static const method split_methods[] = {
 #ifdef HAVE_SPLIT
-    {"ours", split_ours, 0},
+    {"ours", split_ours, 0, "#1253a4"},
 #endif
-    {"plain C", split_plain, 0},
-    {"plain C, counting first", split_counting, 0},
-    {"plain C, product compared", split_comparing, 0},
-    {"plain C, both", split_both, 0},
+    {"plain C", split_plain, 0, "#2e7d32"},
+    {"plain C, counting first", split_counting, 0, NULL},
+    {"plain C, product compared", split_comparing, 0, NULL},
+    {"plain C, both", split_both, 0, NULL},
 #ifdef HAVE_SAME_PRODUCTS
-    {"papers' rule, pair by pair", split_rule, 1},
+    {"papers' rule, pair by pair", split_rule, 1, NULL},
 #endif
-    {"algorithm 3", split_algorithm3, 1},
+    {"algorithm 3", split_algorithm3, 1, "#b35900"},
 #ifdef HAVE_FLINT
-    {"FLINT", split_flint, 1},
+    {"FLINT", split_flint, 1, "#c2185b"},
 #endif
 };
 static const method multiply_methods[] = {
 #ifdef HAVE_MULTIPLY
-    {"ours", multiply_ours, 0},
+    {"ours", multiply_ours, 0, NULL},
 #endif
-    {"plain C", multiply_plain, 0},
-    {"C merge", multiply_merge, 0},
-    {"unions and qsort", multiply_sort, 0},
+    {"plain C", multiply_plain, 0, NULL},
+    {"C merge", multiply_merge, 0, NULL},
+    {"unions and qsort", multiply_sort, 0, NULL},
 #ifdef HAVE_FLINT
-    {"FLINT", multiply_flint, 0},
+    {"FLINT", multiply_flint, 0, NULL},
 #endif
 };
 static const method same_methods[] = {
 #ifdef HAVE_SAME_PRODUCTS
-    {"ours", same_ours, 0},
+    {"ours", same_ours, 0, "#1253a4"},
 #endif
-    {"plain C", same_plain, 0},
-    {"papers' choice", same_papers, 1},
-    {"multiplied out, qsort", same_direct, 1},
+    {"plain C", same_plain, 0, "#2e7d32"},
+    {"papers' choice", same_papers, 1, "#6a1b9a"},
+    {"multiplied out", same_direct, 1, "#5d4037"},
 #ifdef HAVE_FLINT
-    {"FLINT", same_flint, 1},
+    {"FLINT", same_flint, 1, "#c2185b"},
 #endif
 };
 static const method read_methods[] = {
 #ifdef HAVE_READ
-    {"ours", read_ours, 0},
+    {"ours", read_ours, 0, NULL},
 #endif
-    {"plain C", read_plain, 0},
-    {"bit by bit, no checks", read_bits, 0},
+    {"plain C", read_plain, 0, NULL},
+    {"bit by bit, no checks", read_bits, 0, NULL},
 };
 static const method write_methods[] = {
 #ifdef HAVE_WRITE
-    {"ours", write_ours, 0},
+    {"ours", write_ours, 0, NULL},
 #endif
-    {"plain C", write_plain, 0},
-    {"bit by bit, no checks", write_bits, 0},
+    {"plain C", write_plain, 0, NULL},
+    {"bit by bit, no checks", write_bits, 0, NULL},
 };
 #define METHODS(of) of, (int)(sizeof of / sizeof *of)
 
 static job current;
+
+/* Times one method on the current input; 0 if it gave up. Its result must be the first method's. */
+static int timed(const method *m, const method *first, size_t *right, const char *input, double *microseconds) {
+    *microseconds = median_microseconds(m->go, &current);
+    if (m == first) *right = current.result;
+    if (current.result == (size_t)-1) return 0;
+    if (current.result == *right) return 1;
+    fprintf(stderr, "bench: %s gives %zu and %s gives %zu on %s\n", first->name, *right, m->name, current.result, input);
+    exit(1);
+}
 
 static void measure_family(const family *f, const method *methods, int columns, double *median) {
     double times[MOST_COLUMNS][16];
@@ -127,78 +140,100 @@ static void measure_family(const family *f, const method *methods, int columns, 
         size_t right = 0;
         for (int m = 0; m < columns; m++) {
             if (methods[m].slow && i > 0) continue;
-            double us = median_microseconds(methods[m].go, &current);
-            if (m == 0) right = current.result;
-            if (current.result == (size_t)-1) us = INFINITY;
-            else if (current.result != right) {
-                fprintf(stderr, "bench: %s gives %zu and %s gives %zu on %s\n", methods[0].name, right,
-                        methods[m].name, current.result, f->name);
-                exit(1);
-            }
-            times[m][measured[m]++] = us;
+            double *us = &times[m][measured[m]++];
+            if (!timed(&methods[m], methods, &right, f->name, us)) *us = INFINITY;
         }
     }
     for (int m = 0; m < columns; m++) median[m] = median_of(times[m], measured[m]);
 }
-
-static double slowest, typical[64];
-static const char *slowest_name;
-static int typical_count;
 
 static void run_families(const char *title, const family *families, int count, const method *methods, int columns) {
     const char *names[MOST_COLUMNS];
     double us[MOST_COLUMNS];
     for (int m = 0; m < columns; m++) names[m] = methods[m].name;
     table_start(title, names, columns);
-    slowest = 0, typical_count = 0;
     for (int i = 0; i < count; i++) {
         measure_family(&families[i], methods, columns, us);
         table_row(families[i].name, current.a.t, us);
-        typical[typical_count++] = us[0];
-        if (us[0] > slowest) slowest = us[0], slowest_name = families[i].name;
     }
-    double middle = median_of(typical, typical_count);
-    printf("\n%s: slowest input %.1f us (%s), median input %.1f us, ratio %.1f\n", methods[0].name, slowest, slowest_name,
-           middle, slowest / middle);
+    table_end();
 }
 
 /* ---- growth */
 
-static void run_growth(int with_split, int with_same, const char *picture) {
-    static series all[MOST_SERIES];
-    int count = 0;
-    for (int i = 0; i < growing_inputs_count; i++) {
-        const growing *g = &growing_inputs[i];
-        if (!(g->is_split ? with_split : with_same)) continue;
-        series *s = &all[count++];
-        s->name = g->name;
-        s->points = 0;
-        for (int size = 64; size <= 1024; size *= 2) {
-            double us;
-            family f = {g->name, g->make, size, 3};
-            measure_family(&f, g->is_split ? split_methods : same_methods, 1, &us);
-            s->terms[s->points] = size, s->microseconds[s->points++] = us;
+/* A method that takes longer than this for one call is tried on no other input of that size and on no larger one. */
+static const double TOO_SLOW = 3e6;
+enum { SEEDS = 3 };
+
+/* Adds to each line the point for one size: the median over the seeds. */
+static void measure_size(panel *p, const growing *g, const method *const *methods, int size) {
+    double times[MOST_COLUMNS][SEEDS];
+    int measured[MOST_COLUMNS] = {0}, ended[MOST_COLUMNS] = {0};
+    for (int seed = 0; seed < SEEDS; seed++) {
+        random_seed((uint64_t)seed + 1);
+        g->make(&current, size);
+        size_t right = 0;
+        for (int m = 0; m < p->count; m++) {
+            if (p->lines[m].too_slow) continue;
+            double *us = &times[m][measured[m]++];
+            ended[m] += timed(methods[m], methods[0], &right, g->name, us);
+            p->lines[m].too_slow = *us > TOO_SLOW;
         }
     }
-    if (count == 0) return;
-    growth_table(all, count);
-    char title[120];
-    snprintf(title, sizeof title, "Time for one call against the number of terms in a list (split: %s; same products: %s)",
-             split_methods[0].name, same_methods[0].name);
-    if (picture && growth_picture(picture, title, all, count)) printf("\npicture: %s\n", picture);
+    for (int m = 0; m < p->count; m++) {
+        series *s = &p->lines[m];
+        if (measured[m] == 0) continue;
+        s->terms[s->points] = (double)current.a.t;
+        s->given_up[s->points] = 2 * ended[m] <= measured[m];
+        s->microseconds[s->points++] = median_of(times[m], measured[m]);
+    }
+}
+
+static void measure_growth(panel *p, const growing *g, const method *methods, int columns) {
+    const method *raced[MOST_COLUMNS];
+    p->name = g->name, p->count = 0;
+    for (int m = 0; m < (g->is_drawn ? columns : 1); m++) {
+        if (m > 0 && !methods[m].colour) continue;
+        series line = {.name = methods[m].name, .colour = methods[m].colour};
+        raced[p->count] = &methods[m], p->lines[p->count++] = line;
+    }
+    for (int k = 0; k < SIZES; k++) measure_size(p, g, raced, SMALLEST << k);
+}
+
+static int run_growth(const char *picture) {
+    static panel all[MOST_PANELS];
+    for (int i = 0; i < growing_inputs_count; i++) {
+        const growing *g = &growing_inputs[i];
+        if (g->is_split) measure_growth(&all[i], g, METHODS(split_methods));
+        else measure_growth(&all[i], g, METHODS(same_methods));
+    }
+    growth_table(all, growing_inputs_count);
+    peers_table(all, growing_inputs_count);
+    if (growth_picture(picture, all, growing_inputs_count)) return 0;
+    fprintf(stderr, "bench: cannot write the picture to %s\n", picture);
+    return 1;
 }
 
 #define FAMILIES(of) of, of##_count
 
+static int run_call(const char *call) {
+    if (!strcmp(call, "read")) run_families("read", FAMILIES(block_families), METHODS(read_methods));
+    else if (!strcmp(call, "write")) run_families("write", FAMILIES(block_families), METHODS(write_methods));
+    else if (!strcmp(call, "multiply")) run_families("multiply", FAMILIES(multiply_families), METHODS(multiply_methods));
+    else if (!strcmp(call, "same_products")) run_families("same products", FAMILIES(same_families), METHODS(same_methods));
+    else if (!strcmp(call, "split")) run_families("split", FAMILIES(split_families), METHODS(split_methods));
+    else {
+        fprintf(stderr, "bench: no call is named %s\n", call);
+        return 2;
+    }
+    return 0;
+}
+
 int main(int argc, char **argv) {
-    const char *calls = argc > 1 ? argv[1] : "split,multiply,same_products,read,write";
-    int with_split = strstr(calls, "split") != NULL, with_same = strstr(calls, "same_products") != NULL;
-    printf("Microseconds for one call; in brackets the ratio to the first column.\n");
-    if (strstr(calls, "read")) run_families("read", FAMILIES(block_families), METHODS(read_methods));
-    if (strstr(calls, "write")) run_families("write", FAMILIES(block_families), METHODS(write_methods));
-    if (strstr(calls, "multiply")) run_families("multiply", FAMILIES(multiply_families), METHODS(multiply_methods));
-    if (with_same) run_families("same products", FAMILIES(same_families), METHODS(same_methods));
-    if (with_split) run_families("split", FAMILIES(split_families), METHODS(split_methods));
-    run_growth(with_split, with_same, argc > 2 ? argv[2] : NULL);
+    if (argc == 3 && !strcmp(argv[1], "growth")) return run_growth(argv[2]);
+    for (int i = 1; i < argc; i++) {
+        int failed = run_call(argv[i]);
+        if (failed) return failed;
+    }
     return 0;
 }

@@ -193,7 +193,7 @@ static void four_random(job *j, int size) {
     random_list(&j->a, UINT64_MAX, (size_t)size), random_list(&j->d, UINT64_MAX, (size_t)size);
     random_list(&j->b, UINT64_MAX, (size_t)size), random_list(&j->c, UINT64_MAX, (size_t)size);
 }
-/* The four lists of document 001's rule for the two lowest variables of F in j->a. */
+/* The four lists of the second paper's rule for two variables of F, which stands in j->a. */
 static void rule_of(job *j, int x, int y) {
     poly f = j->a;
     derivative(&j->a, &f, x);
@@ -247,7 +247,7 @@ static void unlike_stairs_flipped(job *j, int size) {
     unlike_stairs(j, size);
     flip_one(&j->d);
 }
-/* The hardest found: P one plus a sum and S a chain on the even variables, Q and R random on the odd ones. */
+/* Hard for ours and for the papers' choice: P one plus a sum and S a chain on the even variables, Q and R random on the odd ones. */
 static void sum_and_chain(job *j, int size) {
     int n = (int)sqrt(size);
     poly p, q, r, s = {{0}, 1};
@@ -323,17 +323,17 @@ const int block_families_count = (int)(sizeof block_families / sizeof *block_fam
 /* ---- growth */
 
 const growing growing_inputs[] = {
-    {"split: two random factors", two_square, 1},
-    {"split: {0..t-1}", whole_cube, 1},
-    {"split: random, 64 variables", any_64, 1},
-    {"split: cube without its last", cube_no_last, 1},
-    {"split: staircase", stairs, 1},
-    {"split: (1 + sum)(1 + sum) without two", sums_without_two, 1},
-    {"same: PQ RS = PR QS, random", refined, 0},
-    {"same: PQ RS = PR QS, dense", refined_dense, 0},
-    {"same: staircase, four alike", same_stairs, 0},
-    {"same: staircases, none alike", unlike_stairs, 0},
-    {"same: the same mirrored", unlike_stairs_mirrored, 0},
-    {"same: sum, chain and two random", sum_and_chain, 0},
+    {"split: two random factors", two_square, 1, 1},
+    {"split: random over 64 variables (irreducible)", any_64, 1, 1},
+    {"split: {0..t-1}", whole_cube, 1, 0},
+    {"split: cube without its last", cube_no_last, 1, 0},
+    {"split: staircase", stairs, 1, 0},
+    {"split: (1 + sum)(1 + sum) without two", sums_without_two, 1, 0},
+    {"same products: PQ RS = PR QS, random", refined, 0, 0},
+    {"same products: PQ RS = PR QS, dense", refined_dense, 0, 1},
+    {"same products: staircase, four alike", same_stairs, 0, 0},
+    {"same products: staircases, none alike", unlike_stairs, 0, 0},
+    {"same products: the same mirrored", unlike_stairs_mirrored, 0, 0},
+    {"same products: sum, chain and two random", sum_and_chain, 0, 1},
 };
 const int growing_inputs_count = (int)(sizeof growing_inputs / sizeof *growing_inputs);

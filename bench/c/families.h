@@ -22,11 +22,11 @@ typedef struct {
     int size, instances;
 } family;
 
-/* An input whose size grows from 64 to 1,024 terms. */
+/* An input whose size grows from 64 to 1,024 terms; those that are drawn are run by the peers too. */
 typedef struct {
     const char *name;
     void (*make)(job *j, int size);
-    int is_split;
+    int is_split, is_drawn;
 } growing;
 
 extern const family split_families[];

@@ -1,4 +1,4 @@
-/* Timing, tables and the picture. */
+/* Timing and tables. */
 #ifndef MEASURE_H
 #define MEASURE_H
 
@@ -9,21 +9,33 @@
 double median_microseconds(void (*go)(void *), void *with);
 double median_of(double *values, int count);
 
-enum { MOST_COLUMNS = 8, MOST_SERIES = 16, MOST_POINTS = 8 };
+enum { MOST_COLUMNS = 8, MOST_PANELS = 16, SIZES = 5, SMALLEST = 64 };
 
 /* A markdown table: a row for each input, a column of microseconds for each method; the first column is what the
- * others are held to. A negative time is one that was not measured, INFINITY one that was given up. */
+ * others are held to. INFINITY is a time that was given up. Behind the table stand the slowest input of the first
+ * method and, for each other method, the two ends of its ratio to the first. */
 void table_start(const char *title, const char *const *methods, int columns);
 void table_row(const char *input, size_t terms, const double *microseconds);
+void table_end(void);
 
-/* A line of the picture: microseconds against the number of terms. */
+/* How one method's time grows with the number of terms: a line of the picture. A point may be a time at which the method
+ * was given up; a method that became too slow has no further points. */
 typedef struct {
-    const char *name;
-    int points;
-    double terms[MOST_POINTS], microseconds[MOST_POINTS];
+    const char *name, *colour;
+    int points, too_slow;
+    double terms[SIZES], microseconds[SIZES];
+    int given_up[SIZES];
 } series;
 
-void growth_table(const series *all, int count);
-int growth_picture(const char *path, const char *title, const series *all, int count);
+/* One growing input and the methods raced on it, the first of which the others are held to. */
+typedef struct {
+    const char *name;
+    int count;
+    series lines[MOST_COLUMNS];
+} panel;
+
+/* The first method on every input; all methods on the inputs that have more than one. */
+void growth_table(const panel *all, int count);
+void peers_table(const panel *all, int count);
 
 #endif

@@ -1,6 +1,6 @@
-/* Same products by the recursion of source document 001, IsEqual, with its one fixed choice: cut at the highest variable,
- * multiply the middle equation by A1 A0. Document 01's corrections are made, so that it is exact; what it lacks is a
- * choice of questions, and it can take longer than anyone waits. */
+/* Same products by the second paper's recursion, IsEqual, with its one fixed choice: cut at the highest variable, multiply
+ * the middle equation by A1 A0. The corrections of docs/RULES.md are made, so that it is exact; what it lacks is a choice
+ * of questions, and it can take longer than anyone waits. */
 #include "peers.h"
 
 typedef struct {

@@ -1,10 +1,11 @@
-/* Other methods, to race against. Each gives the number of parts, terms or 0/1, so that the results can be compared. */
+/* Other methods, to race against. Each gives the number of parts, terms or 0/1, so that the results can be compared.
+ * docs/RULES.md names the papers. */
 #ifndef PEERS_H
 #define PEERS_H
 
 #include "inputs.h"
 
-/* Algorithm 3 (FDSZ) of source document 000: y is apart from x if AD and BC agree at two random points of GF(2^63). */
+/* Algorithm 3 (FDSZ) of the first paper: y is apart from x if AD and BC agree at two random points of GF(2^63). */
 size_t algorithm3_split(const poly *f);
 
 #ifdef HAVE_SAME_PRODUCTS
@@ -18,8 +19,8 @@ size_t sorting_multiply(const poly *a, const poly *b, uint64_t *out);
 
 /* Both sides multiplied out, sorted, and compared. */
 int direct_same(const poly *a, const poly *d, const poly *b, const poly *c);
-/* The recursion of source document 001 with its fixed choice of multiplier (document 01's corrections made);
- * gives up, with -1, after so many questions. */
+/* The recursion of the second paper with its fixed choice of multiplier, corrected as docs/RULES.md says; gives up,
+ * with -1, after so many questions. */
 int papers_same(const poly *a, const poly *d, const poly *b, const poly *c, unsigned long most_questions);
 
 /* A block bit by bit. */
