@@ -22,7 +22,7 @@ use Rattle.terms.proofs.Width.{width-le}
 use Rattle.digits.proofs.Bits.{length-fields, fields-below}
 use Rattle.block.specs.Format.{size, formIn, nIn, tIn, termsIn, spareIn}
 use Rattle.block.specs.Calls.{bodyChecks, readChecks}
-use Rattle.block.proofs.Variables.{vars-below}
+use Rattle.terms.proofs.Vars.{vars-below}
 
 -- the terms of a block whose header is read fit well below a word
 pub few-bits : (n t : ℕ) → n ≤ 64 → t < 2 ^ 13 → n * t ≤ 524288

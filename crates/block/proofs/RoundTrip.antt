@@ -17,7 +17,7 @@ use Rattle.digits.specs.Number.{Below}
 use Rattle.digits.proofs.Bits.{length-fields}
 use Rattle.block.specs.Format.{nIn, tIn, blockOf}
 use Rattle.block.specs.Calls.{readChecks, ReadEnds, writeChecks, WriteEnds}
-use Rattle.block.proofs.Variables.{vars-below}
+use Rattle.terms.proofs.Vars.{vars-below}
 use Rattle.block.proofs.Fields.{Holds, block-holds, block-unique}
 use Rattle.block.proofs.Reading.{Readable, passed-if-readable}
 use Rattle.block.proofs.Writing.{Writable, passed-if-writable}

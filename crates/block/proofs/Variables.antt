@@ -7,22 +7,16 @@ use Prim.Native.Nat.{ℕ, zero, suc, _^_, _≤_, _<_}
 use native.Mathlib.Nat.{lt-of-le-of-lt, eq-or-lt-of-le}
 use native.Mathlib.Omega.{arith}
 use lib.ListN.{length, getD, List·getD-eq-default}
-use lib.Bits.{or-lt}
 use lib.Pow.{pow-pos}
 use Rattle.masks.proofs.Order.{subset-le}
 use Rattle.polys.specs.List.{Asc}
 use Rattle.polys.specs.Poly.{vars}
 use Rattle.polys.proofs.Lists.{mem-at, asc-at}
-use Rattle.polys.proofs.Polys.{vars-nil, vars-cons, vars-hold}
+use Rattle.polys.proofs.Polys.{vars-hold}
 use Rattle.terms.specs.Width.{width, widthOf, halvings}
+use Rattle.terms.proofs.Vars.{vars-below}
 use Rattle.terms.proofs.Width.{width-bounds, width-unique}
 use Rattle.digits.specs.Number.{Below}
-
--- the variables of terms of k bits have k bits
-pub vars-below : (k : ℕ) (l : List ℕ) → Below k l → vars l < 2 ^ k
-vars-below k [] h = subst (λ (m : ℕ). m < 2 ^ k) (sym vars-nil) (pow-pos k)
-vars-below k (x ∷ l) h =
-    subst (λ (m : ℕ). m < 2 ^ k) (sym (vars-cons x l)) (or-lt k x (vars l) (h 0) (vars-below k l (λ i. h (suc i))))
 
 -- numbers compare one way or the other
 lt-or-le : (a b : ℕ) → (a < b) ⊎ (b ≤ a)
