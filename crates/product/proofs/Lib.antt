@@ -1,5 +1,2 @@
-pub mod Rows
-pub mod Cut
-pub mod Steps
 pub mod Passing
 pub mod Algebra

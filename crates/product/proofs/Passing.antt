@@ -16,7 +16,7 @@ use Rattle.polys.specs.Poly.{vars, times, Apart}
 use Rattle.polys.proofs.Counts.{length-times}
 use Rattle.terms.proofs.Order.{ascends-if-passed}
 use Rattle.product.specs.Multiply.{multiplyChecks}
-use Rattle.product.specs.Unions.{Ready}
+use Rattle.unions.specs.Unions.{Ready}
 
 module _ (most : ℕ) (a b out : List ℕ) (p : Passed (multiplyChecks most a b (length out))) where
   pub first-few : length a ≤ most
@@ -54,11 +54,14 @@ module _ (most : ℕ) (a b out : List ℕ) (p : Passed (multiplyChecks most a b 
   pub ready : 0 < length a * length b → Ready a b (length (take (length a * length b - 0) out))
   ready h =
       record {
-        first = first-ascends;
-        second = second-ascends;
-        apart = apart;
-        some-first = left-positive (length a) (length b) h;
-        some-second = right-positive (length a) (length b) h;
+        factors =
+            record {
+              first = first-ascends;
+              second = second-ascends;
+              apart = apart;
+              some-first = left-positive (length a) (length b) h;
+              some-second = right-positive (length a) (length b) h;
+            };
         fits = ap (λ (k : ℕ). length (take k out)) (sub-zero (length a * length b)) ∙ length-take-le (length a * length b) out fits;
       }
     where

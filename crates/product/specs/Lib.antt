@@ -1,2 +1,1 @@
-pub mod Unions
 pub mod Multiply

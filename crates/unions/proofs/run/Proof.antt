@@ -5,8 +5,8 @@ use lib.Bits.{bitXor, xor-self}
 use lib.ListN.{length, getD}
 use native.Mathlib.Omega.{arith}
 use borrow.Author.Needs.{needs}
-use Rattle.product.proofs.run.Statement.{statement}
-use Rattle.product.proofs.run.Tie as tie
+use Rattle.unions.proofs.run.Statement.{statement}
+use Rattle.unions.proofs.run.Tie as tie
 
 abbrev Inv-loop : tie.InvT-loop
 Inv-loop a d i₀ i = (0 < i) × (i ≤ length a) × (bitXor (getD a 0 0) (getD a (i - 1) 0) ≤ d)

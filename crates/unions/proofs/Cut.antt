@@ -4,20 +4,20 @@ use Prim.Native.Nat.{ℕ, suc, _+_, _-_, _*_, _/_, _^_, _<_, _≤_}
 use native.Mathlib.Nat.{pow-suc, div-eq-of-lt, zero-div, le-div-iff-mul-le}
 use native.Mathlib.Omega.{arith}
 use native.Mathlib.Decide.{decLe}
-use mathlib.Core.Path.{_≡_, sym, ap, _∙_, subst}
-use mathlib.Core.List.{List, _++_}
+use mathlib.Core.Path.{_≡_, sym, ap, ap₂, _∙_, subst}
+use mathlib.Core.List.{List, _++_, append-nil}
 use mathlib.Core.Logic.{⊎-elim}
 use lib.Arith.{bin-ind}
 use lib.Bits.{bitAnd, bitOr, bitXor, and-shr, or-shr, xor-shr, or-disjoint, and-self, xor-self}
-use lib.ListN.{length, getD, take, drop, length-take, length-drop, take-append-drop}
+use lib.ListN.{length, getD, take, drop, length-take, length-drop, take-append-drop, drop-of-length-le}
 use lib.Pow.{pow-pos, shr-mono}
-use lib.Seq.{getD-take, getD-drop}
+use lib.Seq.{getD-take, getD-drop, take-all}
 use Rattle.masks.proofs.Reflect.{∅, _∩_, _⊕_, _≐_, _⊆_, _⇒_, ∴_, apart, identity}
-use Rattle.polys.specs.List.{Mem, Asc}
+use Rattle.polys.specs.List.{Mem}
 use Rattle.polys.specs.Poly.{vars, times, Apart}
 use Rattle.polys.proofs.Lists.{mem-left, mem-right, mem-append, mem-at, at-mem, asc-append, asc-at-le}
-use Rattle.polys.proofs.Polys.{Union, times-mem, union-times, times-asc, times-by-mem, vars-hold, apart-terms}
-use Rattle.product.specs.Unions.{Run}
+use Rattle.polys.proofs.Polys.{Union, times-mem, union-times, times-asc, times-by-mem, times-zero-left, vars-hold, apart-terms}
+use Rattle.unions.specs.Unions.{Factors, Run, span}
 
 -- ---- numbers above a bit
 
@@ -101,36 +101,36 @@ module _ (a₀ a₁ b : List ℕ) (k : ℕ) (free : Apart (a₀ ++ a₁) b)
 
 -- ---- the cut that `run` finds
 
-module _ (a b : List ℕ) (d r : ℕ) (up : Asc a) (up′ : Asc b) (free : Apart a b) (some : 0 < length b) (cut : Run a d r)
-    (span : bitXor (getD b 0 0) (getD b (length b - 1) 0) ≡ d)
-    (wide : d < bitXor (getD a 0 0) (getD a (length a - 1) 0)) where
-  -- the run is not the whole list, which varies by more
-  pub run-short : r < length a
-  run-short = go (decLe (length a) r)
-    where
-      go : Dec (length a ≤ r) → r < length a
-      go (no n) = omega arith
-      go (yes l) =
-          absurd
-          (let e : r ≡ length a = omega (arith, cut .within) in
-          let n : bitXor (getD a 0 0) (getD a (length a - 1) 0) ≤ d = subst (λ (k : ℕ). bitXor (getD a 0 0) (getD a (k - 1) 0) ≤ d) e (cut .near) in
-          let c : ⊥ = omega arith in
-          c)
+-- a run by less than the list varies is not the whole list
+pub run-short : (a : List ℕ) (d r : ℕ) → Run a d r → d < span a → r < length a
+run-short a d r cut wide = go (decLe (length a) r)
+  where
+    go : Dec (length a ≤ r) → r < length a
+    go (no n) = omega arith
+    go (yes l) =
+        absurd
+        (let e : r ≡ length a = omega (arith, cut .within) in
+        let n : span a ≤ d = subst (λ (k : ℕ). bitXor (getD a 0 0) (getD a (k - 1) 0) ≤ d) e (cut .near) in
+        let c : ⊥ = omega arith in
+        c)
 
+-- where terms are left behind the run
+module _ (a b : List ℕ) (d r : ℕ) (h : Factors a b) (narrow : span b ≡ d) (cut : Run a d r) (short : r < length a) where
   -- the bit above which b is constant and a is not
   bit : (k : ℕ) × (d < 2 ^ k) × (2 ^ k ≤ bitXor (getD a 0 0) (getD a r 0))
-  bit = bit-between (bitXor (getD a 0 0) (getD a r 0)) d apart-spans (cut .far run-short)
+  bit = bit-between (bitXor (getD a 0 0) (getD a r 0)) d apart-spans (cut .far short)
     where
       first : Mem a (getD a 0 0)
-      first = mem-at a 0 (let h : r < length a = run-short in omega arith)
+      first = mem-at a 0 (h .some-first)
 
       apart-spans : bitAnd d (bitXor (getD a 0 0) (getD a r 0)) ≡ 0
       apart-spans =
           identity 7 (λ p q s t v w d. p ⊆ v ⇒ q ⊆ v ⇒ s ⊆ w ⇒ t ⊆ w ⇒ v ∩ w ≐ ∅ ⇒ s ⊕ t ≐ d ⇒ ∴ d ∩ (p ⊕ q) ≐ ∅) tt
           (getD a 0 0) (getD a r 0) (getD b 0 0) (getD b (length b - 1) 0) (vars a) (vars b) d
-          (vars-hold a (getD a 0 0) first) (vars-hold a (getD a r 0) (mem-at a r run-short))
-          (vars-hold b (getD b 0 0) (mem-at b 0 some)) (vars-hold b (getD b (length b - 1) 0) (mem-at b (length b - 1) (omega arith)))
-          free span
+          (vars-hold a (getD a 0 0) first) (vars-hold a (getD a r 0) (mem-at a r short))
+          (vars-hold b (getD b 0 0) (mem-at b 0 (h .some-second)))
+          (vars-hold b (getD b (length b - 1) 0) (mem-at b (length b - 1) (let s : 0 < length b = h .some-second in omega arith)))
+          (h .apart) narrow
 
   level : (t t′ : ℕ) → Mem b t → Mem b t′ → t / 2 ^ bit .0 ≡ t′ / 2 ^ bit .0
   level t t′ m m′ = at-first t m ∙ sym (at-first t′ m′)
@@ -141,40 +141,49 @@ module _ (a b : List ℕ) (d r : ℕ) (up : Asc a) (up′ : Asc b) (free : Apart
       at-first : (x : ℕ) → Mem b x → x / 2 ^ bit .0 ≡ getD b 0 0 / 2 ^ bit .0
       at-first x n =
           let u = at-mem b x n in
-          let h : u .0 < length b = u .1 in
+          let g : u .0 < length b = u .1 in
           ap (λ (z : ℕ). z / 2 ^ bit .0) (u .2)
           ∙ agree-between (bit .0) (getD b 0 0) (getD b (u .0) 0) (getD b (length b - 1) 0)
-          (asc-at-le b 0 (u .0) up′ (omega arith) h) (asc-at-le b (u .0) (length b - 1) up′ (omega arith) (omega arith)) ends
+          (asc-at-le b 0 (u .0) (h .second) (omega arith) g) (asc-at-le b (u .0) (length b - 1) (h .second) (omega arith) (omega arith)) ends
 
   rise : (s s′ : ℕ) → Mem (take r a) s → Mem (drop r a) s′ → s / 2 ^ bit .0 < s′ / 2 ^ bit .0
   rise s s′ m m′ =
       let low : s / 2 ^ bit .0 ≡ getD a 0 0 / 2 ^ bit .0 = in-run in
       let high : getD a r 0 / 2 ^ bit .0 ≤ s′ / 2 ^ bit .0 = behind-run in
-      let up : getD a 0 0 / 2 ^ bit .0 ≤ getD a r 0 / 2 ^ bit .0 = shr-mono (bit .0) (asc-at-le a 0 r up (omega arith) run-short) in
+      let up : getD a 0 0 / 2 ^ bit .0 ≤ getD a r 0 / 2 ^ bit .0 = shr-mono (bit .0) (asc-at-le a 0 r (h .first) (omega arith) short) in
       let other : getD a 0 0 / 2 ^ bit .0 ≡ getD a r 0 / 2 ^ bit .0 → ⊥ = differ-if-far (bit .0) (getD a 0 0) (getD a r 0) (bit .2) in
       omega arith
     where
       in-run : s / 2 ^ bit .0 ≡ getD a 0 0 / 2 ^ bit .0
       in-run =
           let u = at-mem (take r a) s m in
-          let h : u .0 < length (take r a) = u .1 in
+          let g : u .0 < length (take r a) = u .1 in
           let w : u .0 < r = omega (arith, length-take r a) in
-          let b : r < length a = run-short in
           ap (λ (z : ℕ). z / 2 ^ bit .0) (u .2 ∙ getD-take r a (u .0) 0 w)
           ∙ agree-between (bit .0) (getD a 0 0) (getD a (u .0) 0) (getD a (r - 1) 0)
-          (asc-at-le a 0 (u .0) up (omega arith) (omega arith)) (asc-at-le a (u .0) (r - 1) up (omega arith) (omega arith))
+          (asc-at-le a 0 (u .0) (h .first) (omega arith) (omega arith)) (asc-at-le a (u .0) (r - 1) (h .first) (omega arith) (omega arith))
           (agree-if-near (bit .0) (getD a 0 0) (getD a (r - 1) 0)
           (let n : bitXor (getD a 0 0) (getD a (r - 1) 0) ≤ d = cut .near in let h : d < 2 ^ bit .0 = bit .1 in omega arith))
 
       behind-run : getD a r 0 / 2 ^ bit .0 ≤ s′ / 2 ^ bit .0
       behind-run =
           let u = at-mem (drop r a) s′ m′ in
-          let h : u .0 < length (drop r a) = u .1 in
+          let g : u .0 < length (drop r a) = u .1 in
           shr-mono (bit .0)
           (subst (λ (z : ℕ). getD a r 0 ≤ z) (sym (u .2 ∙ getD-drop r a (u .0) 0))
-          (asc-at-le a r (r + u .0) up (omega arith) (omega (arith, length-drop r a))))
+          (asc-at-le a r (r + u .0) (h .first) (omega arith) (omega (arith, length-drop r a))))
 
-  pub times-by-runs : times a b ≡ times (take r a) b ++ times (drop r a) b
-  times-by-runs =
+  times-cut-by-run : times a b ≡ times (take r a) b ++ times (drop r a) b
+  times-cut-by-run =
       ap (λ (l : List ℕ). times l b) (sym (take-append-drop r a))
-      ∙ times-cut (take r a) (drop r a) b (bit .0) (subst (λ (l : List ℕ). Apart l b) (sym (take-append-drop r a)) free) rise level
+      ∙ times-cut (take r a) (drop r a) b (bit .0) (subst (λ (l : List ℕ). Apart l b) (sym (take-append-drop r a)) (h .apart)) rise level
+
+-- the product is that of the first run followed by that of the rest, if any
+pub times-by-runs : (a b : List ℕ) (d r : ℕ) → Factors a b → span b ≡ d → Run a d r → times a b ≡ times (take r a) b ++ times (drop r a) b
+times-by-runs a b d r h narrow cut = go (decLe (length a) r)
+  where
+    go : Dec (length a ≤ r) → times a b ≡ times (take r a) b ++ times (drop r a) b
+    go (no n) = times-cut-by-run a b d r h narrow cut (omega arith)
+    go (yes l) =
+        sym (ap₂ (λ (x y : List ℕ). times x b ++ times y b) (take-all r a l) (drop-of-length-le a {i = r} l)
+        ∙ ap (λ (l : List ℕ). times a b ++ l) (times-zero-left b) ∙ append-nil (times a b))

@@ -4,11 +4,11 @@ use mathlib.Core.Path.{_≡_, refl, ap, _∙_}
 use lib.Bits.{bitOr}
 use mathlib.Core.List.{List}
 use lib.ListN.{length, getD, set, length-set}
-use Rattle.product.proofs.Rows.{written, written-more, written-all}
+use Rattle.unions.proofs.Rows.{written, written-more, written-all}
 use native.Mathlib.Omega.{arith}
 use borrow.Author.Needs.{needs}
-use Rattle.product.proofs.row.Statement.{statement}
-use Rattle.product.proofs.row.Tie as tie
+use Rattle.unions.proofs.row.Statement.{statement}
+use Rattle.unions.proofs.row.Tie as tie
 
 abbrev Inv-loop : tie.InvT-loop
 Inv-loop t b out₀ i₀ out i = (i ≤ length b) × (length out ≡ length b) × (out ≡ written (bitOr t) b out₀ i)

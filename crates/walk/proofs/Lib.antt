@@ -1,0 +1,4 @@
+pub mod Walking
+pub mod Rows
+pub mod Turns
+pub mod Telling
