@@ -14,7 +14,7 @@ use Rattle.masks.proofs.Order.{subset-le}
 use Rattle.polys.specs.Poly.{vars}
 use Rattle.splitting.specs.Mix.{Closed}
 use Rattle.splitting.proofs.Mixing.{closed-intersection, closed-in-vars, closed-vars}
-use Rattle.splitting.proofs.BadPair.{Forced}
+use Rattle.splitting.proofs.Forced.{Forced}
 use Rattle.splitting.proofs.Part.{not-empty}
 use Rattle.splitting.proofs.Growing.{Growing, growing-start}
 use Rattle.unique.specs.Merged.{lowest}

@@ -1,37 +1,53 @@
--- One term more in the search for the least difference. Assumes nothing.
-use Prim.Native.Nat.{ℕ, suc, _+_, _≤_, _<_}
-use mathlib.Core.Path.{_≡_, refl, sym, _∙_}
-use mathlib.Core.Bool.{false}
+-- The least difference from t, on w, among the terms passed that are on y what s is. Assumes nothing.
+use Prim.Native.Nat.{ℕ, _+_, _≤_, _<_}
+use mathlib.Core.Path.{_≡_, refl, sym, subst}
 use mathlib.Core.List.{List}
 use mathlib.Core.Logic.{_⊎_, inl, inr}
+use native.Mathlib.Nat.{le-antisymm, le-trans, le-of-eq}
 use native.Mathlib.Omega.{arith}
 use borrow.Author.Count.{below-more}
+use lib.Bits.{bitAnd, bitXor, and-le-l, and-comm}
 use lib.ListN.{length, getD}
-use lib.Bits.{bitAnd}
-use Rattle.grow.specs.Steps.{asked, Bad, differs, Smaller, Least}
+use Rattle.grow.specs.Steps.{differs, Agrees, Least}
 
--- before any term was looked at
-pub least-of-none : (f : List ℕ) (y w t start : ℕ) → Least f 0 y w t start start
-least-of-none f y w t start = record { bound = (λ k h b. absurd (omega arith)); from = inl refl }
+-- of the first i terms: none differs less than d; and d is all of w, or one of them differs by it
+pub record Seen (f : List ℕ) (y w on t i d : ℕ) : Type 0 where
+  pub bound : (k : ℕ) → k < i → bitAnd (getD f k 0) y ≡ on → d ≤ differs w t (getD f k 0)
+  pub from : (d ≡ w) ⊎ ((k : ℕ) × (k < i) × (bitAnd (getD f k 0) y ≡ on) × (d ≡ differs w t (getD f k 0)))
 
--- the term at i looked at
-pub least-one-more : (f : List ℕ) (i y w t start d r : ℕ) → Least f i y w t start d
-    → Smaller f (asked y (bitAnd t w) (getD f i 0)) (differs w t (getD f i 0)) d r → Least f (i + 1) y w t start r
-least-one-more f i y w t start d r l s =
-    record {
-      bound = below-more (λ (k : ℕ). Bad f y w t (getD f k 0) → r ≤ differs w t (getD f k 0)) i old (λ b. s .bound b);
-      from = here (s .from);
-    }
+module _ (f : List ℕ) (y w on t : ℕ) where
+  pub seen-none : Seen f y w on t 0 w
+  seen-none = record { bound = λ k h a. absurd (omega arith); from = inl refl }
+
+  module _ (i d : ℕ) (s : Seen f y w on t i d) where
+    earlier : (d ≡ w) ⊎ ((k : ℕ) × (k < i) × (bitAnd (getD f k 0) y ≡ on) × (d ≡ differs w t (getD f k 0)))
+        → (d ≡ w) ⊎ ((k : ℕ) × (k < i + 1) × (bitAnd (getD f k 0) y ≡ on) × (d ≡ differs w t (getD f k 0)))
+    earlier (inl e) = inl e
+    earlier (inr k) = inr (k .0, omega (arith, k .1), k .2, k .3)
+
+    -- the next term does not agree, or differs by no less
+    pub seen-passed : (bitAnd (getD f i 0) y ≡ on → d ≤ differs w t (getD f i 0)) → Seen f y w on t (i + 1) d
+    seen-passed h =
+        record { bound = below-more (λ (k : ℕ). bitAnd (getD f k 0) y ≡ on → d ≤ differs w t (getD f k 0)) i (s .bound) h; from = earlier (s .from) }
+
+    -- it differs by less
+    pub seen-less : bitAnd (getD f i 0) y ≡ on → differs w t (getD f i 0) < d → Seen f y w on t (i + 1) (differs w t (getD f i 0))
+    seen-less a h =
+        record {
+          bound =
+              below-more (λ (k : ℕ). bitAnd (getD f k 0) y ≡ on → differs w t (getD f i 0) ≤ differs w t (getD f k 0)) i
+              (λ k l b. omega (arith, s .bound k l b)) (λ b. omega arith);
+          from = inr (i, omega arith, a, refl);
+        }
+
+-- all are seen, and one agrees
+pub seen-all : (f : List ℕ) (y w s t d : ℕ) → Agrees f y s → Seen f y w (bitAnd s y) t (length f) d → Least f y w s t d
+seen-all f y w s t d a seen = record { bound = seen .bound; from = go (seen .from) }
   where
-    old : (k : ℕ) → k < i → Bad f y w t (getD f k 0) → r ≤ differs w t (getD f k 0)
-    old k h b = omega (arith, l .bound k h b, s .not-above)
+    within : (u : ℕ) → differs w t u ≤ w
+    within u = subst (λ (v : ℕ). v ≤ w) (and-comm w (bitXor u t)) (and-le-l w (bitXor u t))
 
-    before : r ≡ d → (d ≡ start) ⊎ ((k : ℕ) × (k < i) × Bad f y w t (getD f k 0) × (d ≡ differs w t (getD f k 0)))
-        → (r ≡ start) ⊎ ((k : ℕ) × (k < i + 1) × Bad f y w t (getD f k 0) × (r ≡ differs w t (getD f k 0)))
-    before e (inl e2) = inl (e ∙ e2)
-    before e (inr u) = inr (u .0, omega (arith, u .1), u .2, e ∙ u .3)
-
-    here : (r ≡ d) ⊎ (Bad f y w t (getD f i 0) × (r ≡ differs w t (getD f i 0)))
-        → (r ≡ start) ⊎ ((k : ℕ) × (k < i + 1) × Bad f y w t (getD f k 0) × (r ≡ differs w t (getD f k 0)))
-    here (inl e) = before e (l .from)
-    here (inr b) = inr (i, omega arith, b .0, b .1)
+    go : (d ≡ w) ⊎ ((k : ℕ) × (k < length f) × (bitAnd (getD f k 0) y ≡ bitAnd s y) × (d ≡ differs w t (getD f k 0)))
+        → (k : ℕ) × (k < length f) × (bitAnd (getD f k 0) y ≡ bitAnd s y) × (d ≡ differs w t (getD f k 0))
+    go (inl e) = (a .0, a .1, a .2, le-antisymm (seen .bound (a .0) (a .1) (a .2)) (le-trans (within (getD f (a .0) 0)) (le-of-eq (sym e))))
+    go (inr k) = k

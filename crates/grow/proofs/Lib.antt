@@ -1,10 +1,9 @@
--- Why each answer of the search for the part of the lowest variable is right: one file for each of its tests and for its rounds.
-pub mod Differences
-pub mod Written
+-- Why each answer of the search for the part of the lowest variable is right: what is picked, what belongs together, where it stands, and
+-- one round after the other.
 pub mod Picking
-pub mod Tests
-pub mod Growing
-pub mod LaidOut
-pub mod Counting
-pub mod Deciding
+pub mod Laying
+pub mod Differences
+pub mod Picked
+pub mod Bringing
+pub mod Standing
 pub mod Rounds

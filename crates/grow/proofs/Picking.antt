@@ -1,6 +1,6 @@
 -- Laws of picking terms one after the other. Assumes nothing.
-use Prim.Native.Nat.{ℕ, zero, suc, _+_, _≤_, _<_}
-use mathlib.Core.Path.{_≡_, refl, sym, ap, _∙_}
+use Prim.Native.Nat.{ℕ, suc, _+_, _≤_, _<_}
+use mathlib.Core.Path.{_≡_, refl, ap, _∙_}
 use mathlib.Core.Bool.{Bool, true, false}
 use mathlib.Core.List.{List, [], _∷_, _++_, append-nil}
 use native.Mathlib.Omega.{arith}
@@ -10,9 +10,6 @@ use lib.Bits.{bitAnd}
 use lib.Dec.{eqb}
 use lib.ListN.{length, getD, take}
 use lib.Seq.{take-suc}
-use lib.ListN.{set, length-set, length-append, length-take}
-use Rattle.grow.specs.Steps.{written}
-use Rattle.grow.proofs.Written.{written-none, written-length, written-before, written-one-more}
 use Rattle.polys.specs.List.{either}
 use Rattle.splitting.specs.Mix.{pick}
 
@@ -57,56 +54,3 @@ module _ (keep fixed value : ℕ) where
         (pick-append (take i l) (getD l i 0 ∷ [])
         ∙ ap (λ (c : Bool). pick keep fixed value (take i l) ++ either c (bitAnd (getD l i 0) keep ∷ []) []) (ne-eqb (bitAnd (getD l i 0) fixed) value e)
         ∙ append-nil (pick keep fixed value (take i l)))
-
--- where the picking stands after the first i words of w: k are picked, and they stand in `work` from the place `at` on
-pub record Picking (w : List ℕ) (at keep fixed value : ℕ) (work : List ℕ) (k i : ℕ) : Type 0 where
-  pub count : k ≡ length (pick keep fixed value (take i w))
-  pub few : k ≤ i
-  pub stands : work ≡ written w at (pick keep fixed value (take i w))
-  pub same : length work ≡ length w
-
-pub picking-none : (w : List ℕ) (at keep fixed value : ℕ) → at ≤ length w → Picking w at keep fixed value w 0 0
-unfolding pick
-picking-none w at keep fixed value h = record { count = refl; few = omega arith; stands = written-none w at h; same = refl }
-
-module _ (w : List ℕ) (at keep fixed value : ℕ) (work : List ℕ) (k i : ℕ) (p : Picking w at keep fixed value work k i)
-    (before : i < at) (fits : at + i < length w) where
-  -- the words that are looked at are as they were
-  pub read-as-it-was : getD work i 0 ≡ getD w i 0
-  read-as-it-was =
-      ap (λ (l : List ℕ). getD l i 0) (p .stands)
-      ∙ written-before w at (pick keep fixed value (take i w)) (omega (arith, p .count, p .few)) i before
-
-  -- the word at i is picked
-  pub picking-taken : bitAnd (getD work i 0) fixed ≡ value
-      → Picking w at keep fixed value (set work (at + k) (bitAnd (getD work i 0) keep)) (k + 1) (i + 1)
-  picking-taken e =
-      let now = pick keep fixed value (take i w) in
-      let v = bitAnd (getD w i 0) keep in
-      let more : pick keep fixed value (take (i + 1) w) ≡ now ++ (v ∷ []) =
-      pick-taken keep fixed value w i (omega arith) (ap (λ (t : ℕ). bitAnd t fixed) (sym read-as-it-was) ∙ e)
-      in
-      record {
-        count = ap (λ (j : ℕ). j + 1) (p .count) ∙ sym (ap length more ∙ length-append now (v ∷ []));
-        few = omega (arith, p .few);
-        stands =
-            ap (λ (t : ℕ). set work (at + k) (bitAnd t keep)) read-as-it-was
-            ∙ ap (λ (l : List ℕ). set l (at + k) v) (p .stands)
-            ∙ ap (λ (j : ℕ). set (written w at now) (at + j) v) (p .count)
-            ∙ written-one-more w at now v (omega (arith, p .count, p .few))
-            ∙ ap (written w at) (sym more);
-        same = length-set work (at + k) (bitAnd (getD work i 0) keep) ∙ p .same;
-      }
-
-  -- the word at i is passed over
-  pub picking-left : (bitAnd (getD work i 0) fixed ≡ value → ⊥) → Picking w at keep fixed value work k (i + 1)
-  picking-left e =
-      let same-pick : pick keep fixed value (take (i + 1) w) ≡ pick keep fixed value (take i w) =
-      pick-left keep fixed value w i (omega arith) (λ g. e (ap (λ (t : ℕ). bitAnd t fixed) read-as-it-was ∙ g))
-      in
-      record {
-        count = p .count ∙ ap length (sym same-pick);
-        few = omega (arith, p .few);
-        stands = p .stands ∙ ap (written w at) (sym same-pick);
-        same = p .same;
-      }

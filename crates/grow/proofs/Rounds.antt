@@ -1,28 +1,78 @@
--- One round after the other: what holds of the list before a step, and what a step's end says of it. Leans on Growing.
+-- One round after the other: what holds of the list before a step, and what a step's end says of it. Leans on the theory of growing.
 use Prim.Native.Nat.{ℕ, _+_, _-_, _≤_, _<_}
-use mathlib.Core.Path.{_≡_, refl, sym, ap, _∙_, subst}
+use mathlib.Core.Path.{_≡_, sym, ap, _∙_, subst}
+use mathlib.Core.Bool.{Bool, _||_}
 use mathlib.Core.List.{List}
 use native.Mathlib.Omega.{arith}
-use lib.Bits.{bitAnd, bitOr}
+use lib.Bits.{bitAnd, bitOr, or-disjoint, and-self}
 use lib.ListN.{length, take}
+use lib.Seq.{length-take-le}
+use Rattle.masks.specs.Bit.{bit, without}
+use Rattle.masks.proofs.Bits.{bit-or}
 use Rattle.masks.proofs.Lowest.{low}
 use Rattle.masks.proofs.Order.{subset-le}
+use Rattle.masks.proofs.Sets.{or-subset, apart-sym}
 use Rattle.polys.specs.List.{Asc}
 use Rattle.polys.specs.Poly.{vars}
 use Rattle.splitting.proofs.Growing.{Growing, growing-start}
+use Rattle.counts.specs.Planes.{Tallied}
 use Rattle.grow.specs.declared.Step.{Step}
 use Rattle.grow.specs.declared.Step.the-variants.{Whole, Grow}
-use Rattle.grow.specs.Steps.{Ready, Stepped, Grows, Stands, PartOfLowest}
-use Rattle.grow.proofs.Growing.{grows-on, grows-up}
+use Rattle.grow.specs.Steps.{Ready, Stepped, Belongs, Stands, PartOfLowest}
 
--- before the first round y is the lowest variable
-pub first-round : (work : List ℕ) (n all : ℕ) → Ready (take n work) work n 0 all → 0 < all → (i : ℕ) × Growing (take n work) i (low all)
-first-round work n all ready pos =
-    subst (λ (v : ℕ). (i : ℕ) × Growing (take n work) i (low v)) (sym (ready .variables))
-    (growing-start (take n work) (λ e. absurd (no-more (ready .variables ∙ e))))
-  where
-    no-more : all ≡ 0 → ⊥
-    no-more e = omega arith
+-- with what belongs to y it goes on holding the lowest variable, within the variables of f
+belongs-on : (f : List ℕ) (i y more : ℕ) → Growing f i y → Belongs f y more → Growing f i (bitOr y more)
+belongs-on f i y more g m =
+    record {
+      lowest = g .lowest;
+      holds = bit-or y more i ∙ ap (λ (b : Bool). b || bit more i) (g .holds);
+      within = or-subset y more (vars f) (g .within) (m .inside);
+      forced = m .forced i (g .forced);
+    }
+
+-- and rises, as a number, if it is something
+belongs-up : (f : List ℕ) (y more : ℕ) → Belongs f y more → ¬ (more ≡ 0) → y < bitOr y more
+belongs-up f y more m some =
+    let sum : bitOr y more ≡ y + more = or-disjoint y more (apart-sym more y (m .outside)) in
+    omega arith
+
+-- the list as a call is lent it
+lent : (work : List ℕ) (n : ℕ) → take (n - 0) work ≡ take n work
+lent work n = let whole : n - 0 ≡ n = omega arith in ap (λ (k : ℕ). take k work) whole
+
+-- it is short enough to be counted, and stays what was counted
+pub ready-to-tally : (work : List ℕ) (n all : ℕ) → Ready (take n work) work n 0 all → length (take (n - 0) work) ≤ 65535
+ready-to-tally work n all ready =
+    omega (arith, ap length (lent work n), length-take-le n work (omega (arith, ready .room)), ready .short)
+
+pub still-tallied : (start work alone : List ℕ) (n : ℕ) → take n work ≡ take n start → Tallied (take n start) alone → Tallied (take n work) alone
+still-tallied start work alone n same = subst (λ (f : List ℕ). Tallied f alone) (sym same)
+
+pub tallied-as-lent : (work alone : List ℕ) (n : ℕ) → Tallied (take (n - 0) work) alone → Tallied (take n work) alone
+tallied-as-lent work alone n = subst (λ (f : List ℕ). Tallied f alone) (lent work n)
+
+module _ (work : List ℕ) (n all : ℕ) (ready : Ready (take n work) work n 0 all) (pos : 0 < all) (x : ℕ) (is : x ≡ low all) where
+  -- the lowest variable is asked about by counting,
+  pub ready-to-count : (alone : List ℕ) → Tallied (take n work) alone
+      → Asc (take (n - 0) work) × Tallied (take (n - 0) work) alone × (without x all ≡ without x (vars (take (n - 0) work))) × (bitAnd x x ≡ x)
+  ready-to-count alone tallied = (
+    subst Asc (sym (lent work n)) (ready .ascends),
+    subst (λ (f : List ℕ). Tallied f alone) (sym (lent work n)) tallied,
+    ap (without x) (ready .variables ∙ ap vars (sym (lent work n))),
+    and-self x,
+  )
+
+  -- and before the first round y is what belongs to it
+  pub first-round : (more : ℕ) → Belongs (take (n - 0) work) x more → (i : ℕ) × Growing (take n work) i (bitOr x more)
+  first-round more b =
+      let g = growing-start (take n work) (λ e. absurd (no-more (ready .variables ∙ e))) in (
+        g .0,
+        belongs-on (take n work) (g .0) x more (subst (Growing (take n work) (g .0)) (sym (is ∙ ap low (ready .variables))) (g .1))
+            (subst (λ (l : List ℕ). Belongs l x more) (lent work n) b),
+      )
+    where
+      no-more : all ≡ 0 → ⊥
+      no-more e = omega arith
 
 module _ (start work : List ℕ) (n all y i : ℕ) (ready : Ready (take n start) start n 0 all) (same : take n work ≡ take n start)
     (long : length work ≡ length start) (growing : Growing (take n start) i y) where
@@ -33,6 +83,7 @@ module _ (start work : List ℕ) (n all y i : ℕ) (ready : Ready (take n start)
         list = same;
         ascends = ready .ascends;
         some = ready .some;
+        short = ready .short;
         room = omega (arith, ready .room);
         variables = ready .variables;
         inside = ap (bitAnd y) (ready .variables) ∙ growing .within;
@@ -54,5 +105,5 @@ module _ (start work : List ℕ) (n all y i : ℕ) (ready : Ready (take n start)
         → (take n after ≡ take n start) × Growing (take n start) i (bitOr y more) × (y < bitOr y more) × (bitOr y more ≤ all)
     ends-growing more e =
         let s : Stepped (take n start) n y after (Grow more) = subst (Stepped (take n start) n y after) e stepped in
-        let on : Growing (take n start) i (bitOr y more) = grows-on (take n start) i y more growing (s .1) in
-        (s .0, on, grows-up (take n start) y more (s .1), subst (λ (v : ℕ). bitOr y more ≤ v) (sym (ready .variables)) (subset-le (bitOr y more) (vars (take n start)) (on .within)))
+        let on : Growing (take n start) i (bitOr y more) = belongs-on (take n start) i y more growing (s .1) in
+        (s .0, on, belongs-up (take n start) y more (s .1) (s .2), subst (λ (v : ℕ). bitOr y more ≤ v) (sym (ready .variables)) (subset-le (bitOr y more) (vars (take n start)) (on .within)))

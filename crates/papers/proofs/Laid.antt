@@ -6,9 +6,8 @@ use native.Mathlib.Nat.{zero-add}
 use native.Mathlib.Omega.{arith}
 use lib.Bits.{bitOr}
 use lib.ListN.{length, length-append}
-use Rattle.grow.specs.Steps.{written}
 use Rattle.answer.specs.Ends.{over}
-use Rattle.papers.specs.Steps.{selected, fourSelected, Laid}
+use Rattle.papers.specs.Steps.{written, selected, fourSelected, Laid}
 use Rattle.papers.proofs.Selecting.{written-behind, written-first}
 
 module _ (x y : ℕ) (f : List ℕ) where

@@ -1,4 +1,4 @@
--- Selecting terms one after the other, and lists written one behind another. Leans on grow's laws of a list written behind a front.
+-- Selecting terms one after the other, and lists written one behind another. Leans on the laws of a list written behind a front.
 use Prim.Native.Nat.{ℕ, suc, _+_, _≤_, _<_}
 use mathlib.Core.Path.{_≡_, refl, sym, ap, ap₂, _∙_}
 use mathlib.Core.Bool.{Bool, true, false}
@@ -12,10 +12,9 @@ use lib.Dec.{eqb}
 use lib.ListN.{length, getD, take, drop, set, length-set, length-append, take-append-drop}
 use lib.Seq.{take-suc, drop-cons, drop-drop, take-append-seam, drop-append-add}
 use Rattle.polys.specs.List.{either}
-use Rattle.grow.specs.Steps.{written}
-use Rattle.grow.proofs.Written.{written-none, written-one-more}
+use Rattle.papers.proofs.Written.{written-none, written-one-more}
 use Rattle.answer.specs.Ends.{over}
-use Rattle.papers.specs.Steps.{selected}
+use Rattle.papers.specs.Steps.{written, selected}
 
 module _ (fixed value : ℕ) where
   selected-append : (a b : List ℕ) → selected fixed value (a ++ b) ≡ selected fixed value a ++ selected fixed value b

@@ -5,7 +5,7 @@ use mathlib.Core.Path.{_≡_}
 use mathlib.Core.List.{List, [], _∷_, _++_}
 use lib.Bits.{bitAnd, bitOr, bitXor}
 use lib.Dec.{eqb}
-use lib.ListN.{length}
+use lib.ListN.{length, take, drop}
 use Rattle.polys.specs.List.{Asc, either}
 use Rattle.polys.specs.Poly.{vars}
 use Rattle.rule.specs.Rule.{Occurs}
@@ -15,6 +15,10 @@ use Rattle.answer.specs.Ends.{over}
 unfoldable pub selected : ℕ → ℕ → List ℕ → List ℕ
 selected fixed value [] = []
 selected fixed value (t ∷ f) = either (eqb (bitAnd t fixed) value) (bitXor t value ∷ selected fixed value f) (selected fixed value f)
+
+-- the list d with p written from the place `at` on, all else as it was
+abbrev pub written : List ℕ → ℕ → List ℕ → List ℕ
+written d at p = take at d ++ (p ++ drop (at + length p) d)
 
 -- the four lists of two variables, given as masks
 unfoldable pub fourSelected : ℕ → ℕ → List ℕ → List ℕ

@@ -6,11 +6,10 @@ ghost use Prim.Native.Nat.{_+_, _*_, _≤_, _<_};
 ghost use lib.ListN.{length};
 ghost use Rattle.masks.specs.Bit.{bit};
 ghost use Rattle.polys.specs.Poly.{vars};
-ghost use Rattle.grow.specs.Steps.{written};
 ghost use Rattle.answer.specs.Table.{numbersOf};
 ghost use Rattle.answer.specs.Checked.{Checked};
 ghost use Rattle.papers.specs.Together.{togetherChecks, Tells, TogetherEnds};
-ghost use Rattle.papers.specs.Steps.{selected, fourSelected, Laid, Askable};
+ghost use Rattle.papers.specs.Steps.{written, selected, fourSelected, Laid, Askable};
 use answer::Outcome;
 use terms::TermList;
 

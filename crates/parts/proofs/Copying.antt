@@ -1,11 +1,11 @@
 -- Copying a list over another, word by word. Assumes nothing.
-use Prim.Native.Nat.{ℕ, zero, suc, _+_, _≤_, _<_}
-use mathlib.Core.Path.{_≡_, refl, sym, ap, ap₂, _∙_}
-use mathlib.Core.List.{List, [], _∷_, _++_, append-assoc}
+use Prim.Native.Nat.{ℕ, suc, _+_, _≤_, _<_}
+use mathlib.Core.Path.{_≡_, sym, ap, _∙_}
+use mathlib.Core.List.{List, [], _∷_, _++_, map, append-assoc}
 use native.Mathlib.Omega.{arith}
 use native.Mathlib.Nat.{add-comm}
 use native.Mathlib.Numerals.{add-one}
-use lib.ListN.{length, getD, take, drop, set, length-append, length-drop, length-set}
+use lib.ListN.{length, getD, take, drop, set, length-append, length-drop, length-map, List·getD-map}
 use lib.Seq.{length-take-le, take-suc, drop-cons, set-at, getD-append-add, getD-drop, take-length, take-at}
 use Rattle.answer.specs.Ends.{over}
 
@@ -45,3 +45,10 @@ copied-within w from i h =
 
 pub copied-front : (l r : List ℕ) (i : ℕ) → i ≤ length l → take i (copied l r i) ≡ take i l
 copied-front l r i h = take-at (take i l) (drop i r) i (length-take-le i l h)
+
+-- the same of a list whose every word is changed as it is copied, where nothing stays nothing
+pub changed-one-more : (f : ℕ → ℕ) → f 0 ≡ 0 → (l r : List ℕ) (i : ℕ) → i < length l → length l ≤ length r
+    → set (copied (map f l) r i) i (f (getD l i 0)) ≡ copied (map f l) r (i + 1)
+changed-one-more f none l r i fits room =
+    ap (set (copied (map f l) r i) i) (sym (ap (getD (map f l) i) (sym none) ∙ List·getD-map f l i 0))
+    ∙ copied-one-more (map f l) r i (omega (arith, length-map l f)) (omega (arith, length-map l f))

@@ -4,3 +4,4 @@ pub mod Splitting
 pub mod Round
 pub mod Passing
 pub mod Determined
+pub mod Next

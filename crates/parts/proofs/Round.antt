@@ -4,28 +4,29 @@ use Prim.Native.Nat.{ℕ, suc, _+_, _-_, _*_, _≤_, _<_}
 use mathlib.Core.Path.{_≡_, refl, sym, ap, ap₂, _∙_, subst}
 use mathlib.Core.List.{List, [], _∷_, _++_, append-assoc, append-nil}
 use native.Mathlib.Omega.{arith}
-use lib.Bits.{bitAnd}
+use lib.Bits.{bitAnd, bitOr}
 use lib.Count.{ones}
 use lib.ListN.{length, getD, take, drop, set, length-append, length-set, length-drop}
 use lib.Seq.{length-take-le, take-all}
 use native.Mathlib.Nat.{le-of-eq}
 use Rattle.masks.specs.Bit.{without}
 use Rattle.masks.proofs.Number.{ones-pos}
-use Rattle.masks.proofs.Reflect.{identity, Set, ∅, _∩_, _∖_, _≐_, ∴_}
+use Rattle.masks.proofs.Reflect.{identity, ∅, _∩_, _∪_, _∖_, _≐_, apart, ∴_, _⇒_}
+use Rattle.masks.proofs.Sets.{without-or}
 use Rattle.polys.specs.List.{Mem, Asc}
-use Rattle.polys.specs.Poly.{vars, times, onto, off, Apart}
+use Rattle.polys.specs.Poly.{vars, onto, off, Apart}
 use Rattle.polys.specs.Parts.{IsParts}
 use Rattle.polys.proofs.Lists.{mem-at}
-use Rattle.polys.proofs.Polys.{vars-onto, vars-off, onto-asc, off-asc, mem-onto, mem-off}
+use Rattle.polys.proofs.Polys.{vars-onto, vars-off, onto-asc, off-asc, mem-onto, mem-off, times-asc, times-one-left}
 use Rattle.polys.proofs.Counts.{length-times}
+use Rattle.splitting.proofs.Held.{held, vars-held, length-held}
 use Rattle.splitting.proofs.Part.{no-parts}
 use Rattle.splitting.proofs.Splits.{splits-of-closed}
 use Rattle.splitting.proofs.Growing.{Growing, growing-done, rest-falls, rest-has-fewer}
 use Rattle.unique.proofs.Counts.{sum-below-product}
 use Rattle.grow.specs.Steps.{PartOfLowest, Ready}
-use Rattle.answer.specs.Ends.{over}
 use Rattle.parts.specs.Split.{joined, lengths}
-use Rattle.parts.specs.Steps.{Taken, Written}
+use Rattle.parts.specs.Steps.{TakenNext, Written}
 use Rattle.parts.proofs.Splitting.{Splitting, stored-one-more, noted-one-more, joined-append, joined-one, lengths-append}
 
 -- ---- the two projections along a part
@@ -69,10 +70,10 @@ length-of-lengths (q ∷ ps) = ap suc (length-of-lengths ps)
 
 -- ---- the round
 
-module _ (f terms lens : List ℕ) (t m : ℕ) (terms' lens' work : List ℕ) (n at k all : ℕ)
-    (s : Splitting f terms lens t m terms' lens' work n at k all) (more : all ≡ 0 → ⊥) (lens-room : m ≤ length lens) (terms-room : t + m ≤ length terms) where
-  left : 0 < ones all
-  left = ones-pos all more
+module _ (f terms lens : List ℕ) (t m : ℕ) (terms' lens' work : List ℕ) (n at k c all : ℕ)
+    (s : Splitting f terms lens t m terms' lens' work n at k c all) (more : bitOr c all ≡ 0 → ⊥) (lens-room : m ≤ length lens) (terms-room : t + m ≤ length terms) where
+  left : 0 < ones (bitOr c all)
+  left = ones-pos (bitOr c all) more
 
   -- what the round finds in the work area
   pub ready : Ready (take n work) work n 0 all
@@ -81,6 +82,7 @@ module _ (f terms lens : List ℕ) (t m : ℕ) (terms' lens' work : List ℕ) (n
         list = refl;
         ascends = s .ascends;
         some = s .some;
+        short = s .short;
         room = s .room;
         variables = s .variables;
         inside = refl;
@@ -97,47 +99,60 @@ module _ (f terms lens : List ℕ) (t m : ℕ) (terms' lens' work : List ℕ) (n
   room-fits =
       omega (arith, terms-fit, length-drop at terms', ap length (take-all (length terms' - at) (drop at terms') (le-of-eq (length-drop at terms'))))
 
-  module _ (filled after : List ℕ) (y part rest all' : ℕ)
-      (taken : Taken (take n work) (take (length terms' - at) (drop at terms')) filled after n y part rest)
-      (same : length after ≡ length work) (next : all' ≡ vars (take (rest - 0) after)) where
+  module _ (filled after : List ℕ) (y part rest : ℕ)
+      (taken : TakenNext c (take n work) (take (length terms' - at) (drop at terms')) filled after n all y part rest)
+      (same : length after ≡ length work) where
     g : List ℕ
-    g = take n work
+    g = held c (take n work)
+
+    free : bitAnd c (vars (take n work)) ≡ 0
+    free = ap (bitAnd c) (sym (s .variables)) ∙ s .free
+
+    g-asc : Asc g
+    unfolding g
+    g-asc = times-asc (c ∷ []) (take n work)
+
+    list-length : length (take n work) ≡ n
+    list-length = length-take-le n work (omega (arith, s .room))
 
     g-length : length g ≡ n
     unfolding g
-    g-length = length-take-le n work (omega (arith, s .room))
+    g-length = length-held c (take n work) free (s .ascends) ∙ list-length
 
-    left-over : take rest after ≡ off y g
+    g-vars : vars g ≡ bitOr c all
+    unfolding g
+    g-vars =
+        vars-held c (take n work) free (getD (take n work) 0 0) (mem-at (take n work) 0 (omega (arith, list-length, s .some)))
+        ∙ ap (bitOr c) (sym (s .variables))
+
+    left-over : held (without y c) (take rest after) ≡ off y g
     unfolding g
     left-over = taken .left
 
     grown : Growing g (taken .lowest .lowest .0) y
     unfolding g
-    grown = growing g y (s .ascends) (taken .lowest)
+    grown = growing g y g-asc (taken .lowest)
 
-    next-vars : all' ≡ vars (off y g)
-    unfolding g
-    next-vars =
-        let whole : rest - 0 ≡ rest = omega arith in
-        next ∙ ap (λ (j : ℕ). vars (take j after)) whole ∙ ap vars left-over
+    next-vars : bitOr (without y c) (without y all) ≡ vars (off y g)
+    next-vars = sym (without-or y c all) ∙ ap (without y) (sym g-vars) ∙ sym (vars-off y g)
 
     rooms : (0 < length (off y g)) × (length (onto y g) + length (off y g) ≤ length g + 1)
     unfolding g
-    rooms = room-of-projections g y (s .ascends) (taken .lowest) (getD g 0 0) (mem-at g 0 (omega (arith, g-length, s .some)))
+    rooms = room-of-projections g y g-asc (taken .lowest) (getD g 0 0) (mem-at g 0 (omega (arith, g-length, s .some)))
 
     -- the variables left are fewer, as a number too
-    pub falls : all' < all
+    pub falls : bitOr (without y c) (without y all) < bitOr c all
     unfolding g
-    falls = subst₂-lt (sym next-vars) (sym (s .variables)) (rest-falls g (taken .lowest .lowest .0) y grown)
+    falls = subst₂-lt (sym next-vars) g-vars (rest-falls g (taken .lowest .lowest .0) y grown)
       where
         subst₂-lt : {a b c d : ℕ} → a ≡ b → c ≡ d → a < c → b < d
         subst₂-lt p q h = omega arith
 
-    fewer : ones all' < ones all
+    fewer : ones (bitOr (without y c) (without y all)) < ones (bitOr c all)
     unfolding g
-    fewer = omega (arith, ap ones next-vars, ap ones (s .variables), rest-has-fewer g (taken .lowest .lowest .0) y grown)
+    fewer = omega (arith, ap ones next-vars, ap ones g-vars, rest-has-fewer g (taken .lowest .lowest .0) y grown)
 
-    pub round : Splitting f terms lens t m (take at terms' ++ (filled ++ drop (length terms' - at) (drop at terms'))) (set lens' k part) after rest (at + part) (k + 1) all'
+    pub round : Splitting f terms lens t m (take at terms' ++ (filled ++ drop (length terms' - at) (drop at terms'))) (set lens' k part) after rest (at + part) (k + 1) (without y c) (without y all)
     unfolding g
     round =
         let p = onto y g in
@@ -163,29 +178,44 @@ module _ (f terms lens : List ℕ) (t m : ℕ) (terms' lens' work : List ℕ) (n
               ap length whole ∙ length-append (joined (s .done ++ (p ∷ []))) (drop (at + part) terms)
               ∙ omega (arith, behind, length-drop (at + part) terms, taken .part-fits, terms-fit, s .terms-long);
           lens-long = length-set lens' k part ∙ s .lens-long;
-          ascends = subst Asc (sym left-over) (off-asc y g);
+          ascends = taken .ascends;
           some = omega (arith, rooms .0, taken .rest-count);
+          short = omega (arith, taken .rest-fits, s .short);
           room = omega (arith, taken .rest-fits, s .room, same);
-          variables = next-vars ∙ ap vars (sym left-over);
+          variables = taken .variables;
+          free = still y c all (s .free);
           few = omega (arith, fewer, s .few);
           fits = omega (arith, rooms .1, taken .part-count, taken .rest-count, g-length, s .fits);
           onwards = λ qs parts.
               subst (IsParts f) (sym (append-assoc (s .done) (p ∷ []) qs))
-              (s .onwards (p ∷ qs) (growing-done g (taken .lowest .lowest .0) y grown (s .ascends) (taken .lowest .closed) qs (subst (λ (l : List ℕ). IsParts l qs) left-over parts)));
+              (s .onwards (p ∷ qs) (growing-done g (taken .lowest .lowest .0) y grown g-asc (taken .lowest .closed) qs (subst (λ (l : List ℕ). IsParts l qs) left-over parts)));
         }
+      where
+        still : (y c v : ℕ) → bitAnd c v ≡ 0 → bitAnd (without y c) (without y v) ≡ 0
+        still = identity 3 (λ y c v. apart c v ⇒ ∴ apart (c ∖ y) (v ∖ y)) tt
 
 -- ---- the end
 
 -- no variable is left: what is written are the parts
-pub all-written : (f terms lens : List ℕ) (t m : ℕ) (terms' lens' work : List ℕ) (n at k all : ℕ)
-    → Splitting f terms lens t m terms' lens' work n at k all → all ≡ 0 → Written f terms lens terms' lens' k
-all-written f terms lens t m terms' lens' work n at k all s none =
+pub all-written : (f terms lens : List ℕ) (t m : ℕ) (terms' lens' work : List ℕ) (n at k c all : ℕ)
+    → Splitting f terms lens t m terms' lens' work n at k c all → bitOr c all ≡ 0 → Written f terms lens terms' lens' k
+all-written f terms lens t m terms' lens' work n at k c all s none =
     let g = take n work in
+    let nothing : c ≡ 0 = either c all none in
     let first : Mem g (getD g 0 0) = mem-at g 0 (omega (arith, length-take-le n work (omega (arith, s .room)), s .some)) in
-    let parts : IsParts f (s .done ++ []) = s .onwards [] (no-parts g (getD g 0 0) (s .ascends) first (sym (s .variables) ∙ none)) in (
+    let same : g ≡ held c g = sym (times-one-left g (s .ascends)) ∙ ap (λ (v : ℕ). held v g) (sym nothing) in
+    let parts : IsParts f (s .done ++ []) =
+    s .onwards [] (subst (λ (l : List ℕ). IsParts l []) same (no-parts g (getD g 0 0) (s .ascends) first (sym (s .variables) ∙ other c all none)))
+    in (
       s .done,
       subst (IsParts f) (append-nil (s .done)) parts,
       s .counted,
       s .stored ∙ ap (λ (j : ℕ). joined (s .done) ++ drop j terms) (s .placed),
       s .noted ∙ ap (λ (j : ℕ). lengths (s .done) ++ drop j lens) (s .counted ∙ sym (length-of-lengths (s .done))),
     )
+  where
+    either : (c v : ℕ) → bitOr c v ≡ 0 → c ≡ 0
+    either = identity 2 (λ c v. c ∪ v ≐ ∅ ⇒ ∴ c ≐ ∅) tt
+
+    other : (c v : ℕ) → bitOr c v ≡ 0 → v ≡ 0
+    other = identity 2 (λ c v. c ∪ v ≐ ∅ ⇒ ∴ v ≐ ∅) tt

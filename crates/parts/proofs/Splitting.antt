@@ -1,22 +1,25 @@
 -- Where split stands between two parts: some parts are written, and whatever the parts of the rest are, with them they are the parts
 -- of the whole. One law for the start, one for a round, one for the end.
-use Prim.Native.Nat.{ℕ, suc, _+_, _-_, _*_, _≤_, _<_}
-use mathlib.Core.Path.{_≡_, refl, sym, ap, ap₂, _∙_, subst}
+use Prim.Native.Nat.{ℕ, suc, _+_, _-_, _≤_, _<_}
+use mathlib.Core.Path.{_≡_, refl, sym, ap, ap₂, _∙_}
 use mathlib.Core.List.{List, [], _∷_, _++_, append-assoc, append-nil}
 use native.Mathlib.Omega.{arith}
 use native.Mathlib.Nat.{le-of-eq}
 use native.Mathlib.Numerals.{add-one}
+use lib.Bits.{bitAnd, bitOr}
 use lib.Count.{ones}
-use lib.ListN.{length, getD, take, drop, set, length-append, length-drop, length-set, drop-of-length-le}
+use lib.ListN.{length, getD, take, drop, set, length-drop, drop-of-length-le}
 use lib.Seq.{take-at, drop-at, take-all, drop-drop, drop-cons, set-at}
 use Rattle.polys.specs.List.{Asc}
-use Rattle.polys.specs.Poly.{vars, onto, off}
+use Rattle.polys.specs.Poly.{vars}
 use Rattle.polys.specs.Parts.{IsParts}
+use Rattle.splitting.proofs.Held.{held}
 use Rattle.answer.specs.Ends.{over}
 use Rattle.parts.specs.Split.{joined, lengths}
 
--- t is the number of terms of f, and m bounds the number of its variables
-pub record Splitting (f terms lens : List ℕ) (t m : ℕ) (terms' lens' work : List ℕ) (n at k all : ℕ) : Type 0 where
+-- t is the number of terms of f, and m bounds the number of its variables; the rest is the list in the first n words with the variables c
+-- in every term besides, and `all` are the variables of the list
+pub record Splitting (f terms lens : List ℕ) (t m : ℕ) (terms' lens' work : List ℕ) (n at k c all : ℕ) : Type 0 where
   pub done : List (List ℕ)
   pub counted : k ≡ length done
   pub placed : at ≡ length (joined done)
@@ -26,11 +29,13 @@ pub record Splitting (f terms lens : List ℕ) (t m : ℕ) (terms' lens' work : 
   pub lens-long : length lens' ≡ length lens
   pub ascends : Asc (take n work)
   pub some : 0 < n
+  pub short : n ≤ 65535
   pub room : n + (n + n) ≤ length work
   pub variables : all ≡ vars (take n work)
-  pub few : k + ones all ≤ m
+  pub free : bitAnd c all ≡ 0
+  pub few : k + ones (bitOr c all) ≤ m
   pub fits : at + n ≤ t + k
-  pub onwards : (qs : List (List ℕ)) → IsParts (take n work) qs → IsParts f (done ++ qs)
+  pub onwards : (qs : List (List ℕ)) → IsParts (held c (take n work)) qs → IsParts f (done ++ qs)
 
 pub joined-append : (ps qs : List (List ℕ)) → joined (ps ++ qs) ≡ joined ps ++ joined qs
 unfolding joined
@@ -46,11 +51,13 @@ lengths-append [] qs = refl
 lengths-append (p ∷ ps) qs = ap (_∷_ (length p)) (lengths-append ps qs)
 
 -- nothing is written yet
-pub splitting-start : (f terms lens work : List ℕ) (t m all : ℕ) → take t work ≡ f → Asc f → 0 < t → t + (t + t) ≤ length work
-    → all ≡ vars (take (t - 0) work) → ones all ≤ m → Splitting f terms lens t m terms lens work t 0 0 all
+pub splitting-start : (terms lens work : List ℕ) (t m c all : ℕ) → Asc (take t work) → 0 < t → t ≤ 65535 → t + (t + t) ≤ length work
+    → all ≡ vars (take (t - 0) work) → bitAnd c (vars (take t work)) ≡ 0 → ones (bitOr c all) ≤ m
+    → Splitting (held c (take t work)) terms lens t m terms lens work t 0 0 c all
 unfolding joined
-splitting-start f terms lens work t m all e asc some room vs few =
+splitting-start terms lens work t m c all asc some short room vs free few =
     let whole : t - 0 ≡ t = omega arith in
+    let same : all ≡ vars (take t work) = vs ∙ ap (λ (k : ℕ). vars (take k work)) whole in
     record {
       done = [];
       counted = refl;
@@ -59,13 +66,15 @@ splitting-start f terms lens work t m all e asc some room vs few =
       noted = refl;
       terms-long = refl;
       lens-long = refl;
-      ascends = subst Asc (sym e) asc;
+      ascends = asc;
       some = some;
+      short = short;
       room = room;
-      variables = vs ∙ ap (λ (k : ℕ). vars (take k work)) whole;
+      variables = same;
+      free = ap (bitAnd c) same ∙ free;
       few = omega arith;
       fits = omega arith;
-      onwards = λ qs parts. subst (λ (g : List ℕ). IsParts g qs) e parts;
+      onwards = λ qs parts. parts;
     }
 
 -- one part more in the room behind the last one

@@ -1,9 +1,9 @@
 -- One part taken out: what the calls of a round leave, put together. Leans on grow.
-use Prim.Native.Nat.{ℕ, _+_, _-_, _≤_, _<_}
-use mathlib.Core.Path.{_≡_, refl, sym, ap, _∙_}
+use Prim.Native.Nat.{ℕ, _+_, _-_}
+use mathlib.Core.Path.{_≡_, ap, _∙_}
 use mathlib.Core.List.{List}
 use native.Mathlib.Omega.{arith}
-use lib.ListN.{length, take, drop}
+use lib.ListN.{take, drop}
 use Rattle.grow.specs.Steps.{PartOfLowest, Stands}
 use Rattle.answer.specs.Ends.{over}
 use Rattle.parts.specs.Steps.{Taken}

@@ -1,19 +1,18 @@
--- The search for the part of the lowest variable: a set y that starts from that variable and grows by the variables of minimal bad
--- pairs, until it is closed; then the projection onto y is the first part, and the parts of what is left are the others.
--- Leans on BadPair and Part.
+-- The search for the part of the lowest variable: a set y that starts from that variable and grows by what belongs to whatever it belongs
+-- to, until it is closed; then the projection onto y is the first part, and the parts of what is left are the others. Leans on Part.
 use mathlib.Core.Path.{_≡_, sym, ap, _∙_, subst}
 use mathlib.Core.Bool.{true}
 use mathlib.Core.List.{List, _∷_}
-use Prim.Native.Nat.{ℕ, _+_, _≤_, _<_}
+use Prim.Native.Nat.{ℕ, _+_, _<_}
 use native.Mathlib.Nat.{pos-of-ne-zero}
 use native.Mathlib.Omega.{arith}
-use lib.Bits.{bitAnd, bitOr, or-disjoint}
+use lib.Bits.{bitAnd, bitOr}
 use lib.Count.{ones}
 use Rattle.masks.specs.Bit.{bit, without}
 use Rattle.masks.proofs.Bits.{bit-power-same}
 use Rattle.masks.proofs.Reflect.{identity, _∩_, _∪_, _∖_, _≐_, _⊆_, apart, ∴_, _⇒_}
-use Rattle.masks.proofs.Sets.{bit-of-subset, or-subset, subset-or-left, power-subset, apart-sym}
-use Rattle.masks.proofs.Order.{sum-of-inside-and-outside, subset-le}
+use Rattle.masks.proofs.Sets.{power-subset}
+use Rattle.masks.proofs.Order.{sum-of-inside-and-outside}
 use Rattle.masks.proofs.Lowest.{low, IsLowest, low-is-lowest}
 use Rattle.masks.proofs.Number.{ones-disjoint, ones-pos}
 use Rattle.polys.specs.List.{Asc}
@@ -21,7 +20,7 @@ use Rattle.polys.specs.Poly.{vars, onto, off}
 use Rattle.polys.specs.Parts.{IsParts}
 use Rattle.polys.proofs.Polys.{vars-off}
 use Rattle.splitting.specs.Mix.{Closed}
-use Rattle.splitting.proofs.BadPair.{Forced, BadPair, Minimal, apartness, forced-grows, apartness-in-vars, apartness-not-empty, apartness-outside}
+use Rattle.splitting.proofs.Forced.{Forced}
 use Rattle.splitting.proofs.Part.{forced-start, not-empty, part-and-rest}
 
 -- y holds the lowest variable i of f, and nothing that some closed set with i could do without
@@ -44,24 +43,12 @@ growing-start f varies =
     )
 
 module _ (f : List ℕ) (i y : ℕ) (growing : Growing f i y) where
-  pub growing-step : (s t : ℕ) → BadPair f y s t → Minimal f y s t → Growing f i (bitOr y (apartness y s t))
-  growing-step s t pair least =
-      record {
-        lowest = growing .lowest;
-        holds = bit-of-subset y (bitOr y (apartness y s t)) i (subset-or-left y (apartness y s t)) (growing .holds);
-        within = or-subset y (apartness y s t) (vars f) (growing .within) (apartness-in-vars f y s t pair);
-        forced = forced-grows f y s t pair i (growing .forced) least;
-      }
-
   -- the set found is the part's
   pub growing-done : Asc f → Closed y f → (ps : List (List ℕ)) → IsParts (off y f) ps → IsParts f (onto y f ∷ ps)
   growing-done asc closed =
       part-and-rest f y i asc (growing .within) (growing .holds) (growing .lowest) closed (growing .forced)
 
   -- ---- why it ends
-
-  pub growing-below : y ≤ vars f
-  growing-below = subset-le y (vars f) (growing .within)
 
   not-nothing : ¬ (y ≡ 0)
   not-nothing = not-empty y i (growing .holds)
@@ -89,10 +76,3 @@ module _ (f : List ℕ) (i y : ℕ) (growing : Growing f i y) where
 
       outside : (y v : ℕ) → bitAnd y (without y v) ≡ 0
       outside = identity 2 (λ y v. ∴ apart y (v ∖ y)) tt
-
-pub growing-rises : (f : List ℕ) (y s t : ℕ) → BadPair f y s t → y < bitOr y (apartness y s t)
-growing-rises f y s t pair =
-    let e : bitOr y (apartness y s t) ≡ y + apartness y s t =
-    or-disjoint y (apartness y s t) (apart-sym (apartness y s t) y (apartness-outside f y s t pair)) in
-    let h : 0 < apartness y s t = pos-of-ne-zero (apartness-not-empty f y s t pair) in
-    omega arith

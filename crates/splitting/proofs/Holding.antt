@@ -15,14 +15,14 @@ use lib.ListN.{length}
 use Rattle.masks.specs.Bit.{bit, without}
 use Rattle.masks.proofs.Bits.{bit-and, bit-zero, bit-ext, bit-power-other}
 use Rattle.masks.proofs.Reflect.{identity, ∅, _∩_, _∪_, _∖_, _≐_, _⊆_, apart, ∴_, _⇒_}
-use Rattle.masks.proofs.Sets.{or-subset, subset-trans, power-subset}
+use Rattle.masks.proofs.Sets.{subset-trans, power-subset}
 use Rattle.polys.specs.List.{Mem, Asc, either}
 use Rattle.polys.specs.Poly.{vars, onto, off, times, Apart}
 use Rattle.polys.proofs.Lists.{mem-subst, asc-ext, above-by-mem, above-mem}
 use Rattle.polys.proofs.Polys.{mem-onto, onto-mem, onto-asc, mem-off, off-mem, off-asc, vars-onto, vars-off, times-by-mem, apart-sub}
 use Rattle.polys.proofs.Counts.{length-times}
 use Rattle.splitting.specs.Mix.{mix, Closed}
-use Rattle.splitting.proofs.BadPair.{Forced}
+use Rattle.splitting.proofs.Forced.{Forced}
 
 -- the terms of f that hold all of s
 unfoldable pub having : ℕ → List ℕ → List ℕ

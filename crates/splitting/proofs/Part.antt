@@ -20,7 +20,7 @@ use Rattle.polys.proofs.Lists.{mem-subst, asc-ext}
 use Rattle.polys.proofs.Polys.{onto-asc, vars-hold, vars-onto, vars-off}
 use Rattle.splitting.specs.Mix.{Closed}
 use Rattle.splitting.proofs.Mixing.{closed-difference}
-use Rattle.splitting.proofs.BadPair.{Forced}
+use Rattle.splitting.proofs.Forced.{Forced}
 use Rattle.splitting.proofs.Splits.{closed-of-splits, splits-of-closed, closed-from-onto}
 use Rattle.splitting.proofs.Products.{each-map, product-none, each-in-product}
 

@@ -1,12 +1,11 @@
--- Picking: where f is closed along y, its projections are read off by comparing each term with one term of f; and f is closed along y if
--- the mixes with that term, and the unions of what is picked, are terms of f. Both come out ascending.
+-- Picking: where f is closed along y, its projections are read off by comparing each term with one term of f. Both come out ascending.
 -- Leans on the order of terms that agree on a set (masks).
-use mathlib.Core.Path.{_≡_, refl, sym, ap, ap₂, _∙_, subst}
+use mathlib.Core.Path.{_≡_, refl, sym, ap, _∙_, subst}
 use mathlib.Core.Bool.{Bool, true, false}
 use mathlib.Core.Logic.{inl, inr}
 use mathlib.Core.List.{List, [], _∷_}
 use Prim.Native.Nat.{ℕ, _<_}
-use lib.Bits.{bitAnd, bitOr}
+use lib.Bits.{bitAnd}
 use lib.Dec.{T, eqb, eqb→eq, eqb-refl}
 use Rattle.masks.specs.Bit.{without}
 use Rattle.masks.proofs.Reflect.{identity, _∩_, _∖_, _≐_, ∴_}
@@ -147,20 +146,3 @@ module _ (y : ℕ) (f : List ℕ) (first : ℕ) where
       let w = off-mem y f x m in
       mem-subst outer (without y (w .0)) x (sym (w .2)) (mem-outer (w .0) (closed first (w .0) mf (w .1))))
       (λ x m. let w = outer-mem x m in mem-subst (off y f) (without y (w .0)) x (sym (w .2)) (mem-off y f (w .0) (w .1)))
-
-  -- ---- deciding whether f is closed along y
-
-  -- the three tests: mixes with the first term on either side, and the unions of what is picked, are terms of f
-  pub closed-by-tests :
-      ((t : ℕ) → Mem f t → Mem f (mix y first t)) → ((t : ℕ) → Mem f t → Mem f (mix y t first))
-      → ((a b : ℕ) → Mem inner a → Mem outer b → Mem f (bitOr a b)) → Closed y f
-  closed-by-tests left right unions s t ms mt =
-      unions (bitAnd s y) (without y t) (mem-inner s (right s ms)) (mem-outer t (left t mt))
-
-  -- a union of what is picked that is no term of f is the mix of a bad pair
-  pub union-of-picked : (a b : ℕ) → Mem inner a → Mem outer b
-      → (s : ℕ) × (t : ℕ) × Mem f s × Mem f t × (bitOr a b ≡ mix y s t)
-  union-of-picked a b ma mb =
-      let s = inner-mem a ma in
-      let t = outer-mem b mb in
-      (s .0, t .0, s .1, t .1, ap₂ bitOr (s .2) (t .2))

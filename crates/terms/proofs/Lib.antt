@@ -1,4 +1,3 @@
 pub mod Order
 pub mod Width
-pub mod Search
 pub mod Vars

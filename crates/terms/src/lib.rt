@@ -1,13 +1,11 @@
-// The term list (RULES 1): its limits, its record, the order check, its variables, n, and the search for a term.
+// The term list (RULES 1): its limits, its record, the order check, its variables and n.
 ghost use mathlib.Core.Path.{_≡_};
 ghost use Prim.Native.Nat.{_≤_};
 ghost use lib.Bits.{bitAnd};
 ghost use lib.ListN.{length};
-ghost use Rattle.polys.specs.List.{Asc};
 ghost use Rattle.polys.specs.Poly.{vars};
 ghost use Rattle.terms.specs.Order.{unordered};
 ghost use Rattle.terms.specs.Width.{width};
-ghost use Rattle.terms.specs.Search.{holds};
 
 // What is known of a lent list of terms: how many there are, and which variables stand in them.
 pub struct TermList {
@@ -83,25 +81,4 @@ pub fn width_of(set: u64) -> u64
     ensures { λ r. ⌜ r ≡ width set ⌝ }
 {
     64 - (u64::leading_zeros(set) as u64)
-}
-
-// Whether a term stands in an ascending list.
-pub fn is_term(terms: &[u64], x: u64) -> bool
-    requires { ⌜ Asc (now terms) ⌝ }
-    ensures { λ r. ⌜ r ≡ holds (now (terms .entry)) x ⌝ }
-{
-    let mut n = terms.len();
-    if n == 0 {
-        return false;
-    }
-    let mut at = 0;
-    while 1 < n {
-        let half = n / 2;
-        let mid = at + half;
-        if terms[mid] <= x {
-            at = mid;
-        }
-        n -= half;
-    }
-    terms[at] == x
 }

@@ -1,7 +1,7 @@
 -- `grow::lowest` takes the lowest bit of a mask. Assumes nothing.
 use borrow.Author.Needs.{needs}
 use Prim.Native.Nat.{ℕ, _-_}
-use mathlib.Core.Path.{_≡_, refl, subst, sym}
+use mathlib.Core.Path.{_≡_, refl}
 use Rattle.masks.specs.Bit.{without}
 use Rattle.grow.proofs.lowest.Statement.{statement}
 use Rattle.grow.proofs.lowest.Tie as tie

@@ -1,66 +1,58 @@
--- `grow::one_step` lays out, tests, and ends whole or grown: at each return a law of Deciding. Assumes nothing.
+-- `grow::one_step` lays the list out and holds it against the product of what was picked (Standing). Assumes nothing.
 use borrow.Author.Needs.{needs}
-use Rattle.grow.proofs.Deciding.{picks-as-lent, whole-part, whole-list, decided-whole, decided-growing, decided-tied, grows-as-said}
+use Rattle.grow.proofs.Standing.{picks-as-lent, whole-list, whole-if-none, ready-to-count, grows-as-said}
 use Rattle.grow.proofs.one_step.Statement.{statement}
 use Rattle.grow.proofs.one_step.Tie as tie
 
 returns : tie.Need-returns
 returns c =
-    let start = c .before .before .before .before .before .before in
-    let laid = c .before .before .before .lay-out in
+    let start = c .before .before .before .before .before .before .before in
     let a = start .args in
-    whole-part (a .work .now) (a .n) (a .y) (a .all) (start .pre) (laid .last .0) (laid .result .part) (laid .result .rest) (laid .ensures)
-    (whole-list (a .work .now) (a .n) (a .y) (a .all) (start .pre) (laid .last .0) (laid .result .part) (laid .result .rest) (laid .ensures) (c .if1 .taken))
+    let laid = c .before .before .lay-whole in
+    whole-list (a .work .now) (a .n) (a .y) (a .all) (start .pre .0) (c .before .before .before .before .if1 .taken) (laid .last .0) (laid .result .part)
+    (laid .result .rest) (laid .ensures)
 
-test-requires : tie.Need-test-requires
-test-requires c κs =
-    let back = c .before .before .before .before .before .before .before in
-    let start = back .before .before .before in
-    let laid = c .before .before .before .before .before .before .before .lay-out in
+brought-requires : tie.Need-brought-requires
+brought-requires c κs =
+    let back = c .before .before .before .before .before .before in
+    let start = back .before .before .before .before .before in
     let a = start .args in
-    picks-as-lent (a .work .now) (a .n) (a .y) (a .all) (start .pre) (laid .last .0) (laid .result .part) (laid .result .rest) (laid .ensures)
-
-grown-requires : tie.Need-grown-requires
-grown-requires c κs =
-    let back = c .before .before .before .before .before .before .before in
-    let start = back .before .before .before .before .before .before .before in
-    let start = start .before .before in
-    let laid = back .before .before .before .before .before .before .lay-out in
-    let a = start .args in
-    let tested = c .before .before .before .before .before .test in
-    let found = c .before .before .before .found in
-    decided-growing (a .work .now) (a .n) (a .y) (a .all) (start .pre) (laid .last .0) (laid .result .part) (laid .result .rest) (laid .ensures)
-    (tested .result) (found .given .0 .0) (found .given .0 .1 .0) (tested .ensures) (found .given .1)
+    let laid = back .lay-out in
+    picks-as-lent (a .work .now) (a .n) (a .y) (a .all) (start .pre .0) (laid .last .0) (laid .result .part) (laid .result .rest) (laid .ensures)
 
 returns-2 : tie.Need-returns-2
 returns-2 c =
-    let back = c .before .before .before .before .before .before .before in
-    let start = back .before .before .before .before .before .before .before in
-    let start = start .before .before .before in
-    let laid = back .before .before .before .before .before .before .before .lay-out in
+    let found = c .before .brought in
+    let back = c .before .before .before .before .before .before in
+    let back = back .before .before in
+    let start = back .before .before .before .before .before in
     let a = start .args in
-    grows-as-said (a .work .now) (a .n) (a .y) (a .all) (start .pre) (laid .last .0) (laid .result .part) (laid .result .rest) (laid .ensures) (c .grown .result) (c .grown .ensures)
+    let laid = back .lay-out in
+    whole-if-none (a .work .now) (a .n) (a .y) (a .all) (start .pre .0) (laid .last .0) (laid .result .part) (laid .result .rest) (laid .ensures)
+    (found .result) (found .ensures) (c .if2 .taken)
+
+counted-requires : tie.Need-counted-requires
+counted-requires c κs =
+    let found = c .before .before .before .before in
+    let back = found .before .before .before .before in
+    let back = back .before .before .before in
+    let start = back .before .before .before .before .before in
+    let a = start .args in
+    let laid = back .lay-out in
+    ready-to-count (a .work .now) (a .n) (a .y) (a .all) (start .pre .0) (laid .last .0) (laid .result .part) (laid .result .rest) (laid .ensures)
+    (found .brought .result) (c .lowest .result) (a .alone .now) (start .pre .1) (found .brought .ensures) (c .lowest .ensures)
 
 returns-3 : tie.Need-returns-3
 returns-3 c =
-    let back = c .before .before .before .before .before .before .before in
-    let start = back .before .before .before .before .before .before .before in
-    let laid = back .before .before .before .before .lay-out in
+    let tested = c .before .before .before .before in
+    let found = tested .before in
+    let back = found .before .before .before .before in
+    let back = back .before .before .before in
+    let start = back .before .before .before .before .before in
     let a = start .args in
-    let tested = c .before .before .before .test in
-    let found = c .before .found2 in
-    grows-as-said (a .work .now) (a .n) (a .y) (a .all) (start .pre) (laid .last .0) (laid .result .part) (laid .result .rest) (laid .ensures) (found .given .0 .0)
-    (decided-tied (a .work .now) (a .n) (a .y) (a .all) (start .pre) (laid .last .0) (laid .result .part) (laid .result .rest) (laid .ensures) (tested .result) (found .given .0 .0) (tested .ensures) (found .given .1))
-
-returns-4 : tie.Need-returns-4
-returns-4 c =
-    let back = c .before .before .before .before .before .before .before in
-    let start = back .before .before .before .before .before .before in
-    let laid = back .before .before .before .lay-out in
-    let a = start .args in
-    let tested = c .before .before .test in
-    whole-part (a .work .now) (a .n) (a .y) (a .all) (start .pre) (laid .last .0) (laid .result .part) (laid .result .rest) (laid .ensures)
-    (decided-whole (a .work .now) (a .n) (a .y) (a .all) (start .pre) (laid .last .0) (laid .result .part) (laid .result .rest) (laid .ensures) (tested .result) (tested .ensures) (c .enum-told .given .1))
+    let laid = back .lay-out in
+    grows-as-said (a .work .now) (a .n) (a .y) (a .all) (start .pre .0) (laid .last .0) (laid .result .part) (laid .result .rest) (laid .ensures)
+    (found .brought .result) (c .counted .result) (found .brought .ensures) (tested .if2 .left) (c .counted .ensures)
 
 pub one-step-spec : {M : Type 1} → statement M
 one-step-spec =
@@ -69,6 +61,7 @@ one-step-spec =
     (λ c κs. search needs)
     (λ c. search needs)
     returns
+    (λ c κs. search needs)
     (λ c. search needs)
     (λ c. search needs)
     (λ c. search needs)
@@ -83,17 +76,13 @@ one-step-spec =
     (λ c. search needs)
     (λ c. search needs)
     (λ c. search needs)
-    test-requires
-    (λ c. search needs)
-    (λ c. search needs)
-    (λ c. search needs)
-    (λ c. search needs)
-    grown-requires
-    (λ c. search needs)
-    (λ c. search needs)
+    brought-requires
     (λ c. search needs)
     returns-2
     (λ c. search needs)
-    returns-3
     (λ c. search needs)
-    returns-4)
+    (λ c. search needs)
+    (λ c κs. search needs)
+    counted-requires
+    (λ c. search needs)
+    returns-3)

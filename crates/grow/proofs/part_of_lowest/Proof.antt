@@ -1,82 +1,33 @@
--- `grow::part_of_lowest` takes steps until the part is whole. The invariant: y is still growing within the part (Rounds). Assumes nothing.
-use native.Mathlib.Omega.{arith}
+-- `grow::part_of_lowest` counts all terms once, and grows the part (Rounds). Assumes nothing.
 use borrow.Author.Needs.{needs}
-use Prim.Native.Nat.{ℕ, _-_}
-use mathlib.Core.Path.{_≡_, refl, _∙_}
-use Rattle.grow.proofs.Rounds.{first-round, ready-for-step, ends-whole, ends-growing}
-use lib.ListN.{length, take}
-use Rattle.splitting.proofs.Growing.{Growing}
+use mathlib.Core.Path.{refl}
+use Rattle.grow.proofs.Rounds.{ready-to-tally, tallied-as-lent}
 use Rattle.grow.proofs.part_of_lowest.Statement.{statement}
 use Rattle.grow.proofs.part_of_lowest.Tie as tie
 
-abbrev Inv-loop : tie.InvT-loop
-Inv-loop work₀ n all y₀ work y =
-    (take n work ≡ take n work₀) × (length work ≡ length work₀) × ((i : ℕ) × Growing (take n work₀) i y)
-
-abbrev μ-loop : tie.MeasureT-loop
-μ-loop work₀ n all y₀ work y = all - y
-
-loop-holds : tie.Need-loop-holds Inv-loop μ-loop
-loop-holds c =
-    let start = c .before .before in
-    let a = start .args in
-    (refl, refl, rw (c .lowest .ensures) (first-round (a .work .now) (a .n) (a .all) (start .pre .0) (start .pre .1)))
-
-one-step-requires : tie.Need-one-step-requires Inv-loop μ-loop
-one-step-requires c κs =
+tally-requires : tie.Need-tally-requires
+tally-requires c κs =
     let start = c .before .before .before .before in
     let a = start .args in
-    let here = c .before .loop in
-    ready-for-step (a .work .now) (here .work) (a .n) (a .all) (here .y) (here .inv .2 .0) (start .pre .0) (here .inv .0) (here .inv .1) (here .inv .2 .1)
+    (ready-to-tally (a .work .now) (a .n) (a .all) (start .pre .0), refl)
 
-returns : tie.Need-returns Inv-loop μ-loop
-returns c =
-    let back = c .before .before .before .before .before .before .before in
-    let start = back .before .before .before in
+grown-requires : tie.Need-grown-requires
+grown-requires c κs =
+    let counted = c .before .before .before .tally in
+    let start = c .before .before .before .before .before .before .before .before in
     let a = start .args in
-    let here = c .before .before .before .before .before .before .before .loop in
-    let made = c .before .before .before .before .before .one-step in
-    ends-whole (a .work .now) (here .work) (a .n) (a .all) (here .y) (here .inv .2 .0) (start .pre .0) (here .inv .0) (here .inv .1) (here .inv .2 .1)
-    (made .last .0) (made .result) (made .ensures) (c .before .made .given .0 .0) (c .before .made .given .0 .1 .0) (c .before .made .given .1)
-
-loop-less : tie.Need-loop-less Inv-loop μ-loop
-loop-less c =
-    let back = c .before .before .before .before .before .before .before in
-    let start = back .before .before .before in
-    let a = start .args in
-    let here = c .before .before .before .before .before .before .before .loop in
-    let made = c .before .before .before .before .before .one-step in
-    let grown =
-    ends-growing (a .work .now) (here .work) (a .n) (a .all) (here .y) (here .inv .2 .0) (start .pre .0) (here .inv .0) (here .inv .1) (here .inv .2 .1)
-    (made .last .0) (made .result) (made .ensures) (c .before .made2 .given .0 .0) (c .before .made2 .given .1)
-    in
-    omega (arith, grown .2, grown .3)
-
-loop-again : tie.Need-loop-again Inv-loop μ-loop
-loop-again c =
-    let back = c .before .before .before .before .before .before .before in
-    let start = back .before .before .before in
-    let a = start .args in
-    let here = c .before .before .before .before .before .before .before .loop in
-    let made = c .before .before .before .before .before .one-step in
-    let grown =
-    ends-growing (a .work .now) (here .work) (a .n) (a .all) (here .y) (here .inv .2 .0) (start .pre .0) (here .inv .0) (here .inv .1) (here .inv .2 .1)
-    (made .last .0) (made .result) (made .ensures) (c .before .made2 .given .0 .0) (c .before .made2 .given .1)
-    in
-    (grown .0, made .kept .0 ∙ here .inv .1, (here .inv .2 .0, grown .1))
+    (start .pre .0, start .pre .1, tallied-as-lent (a .work .now) (counted .last .1 .0) (a .n) (counted .ensures))
 
 pub part-of-lowest-spec : {M : Type 1} → statement M
 part-of-lowest-spec =
     tie.close
     (tie.spec
-    Inv-loop
-    μ-loop
-    (λ c. search needs)
-    loop-holds
-    one-step-requires
     (λ c. search needs)
     (λ c. search needs)
-    returns
     (λ c. search needs)
-    loop-less
-    loop-again)
+    (λ c. search needs)
+    tally-requires
+    (λ c. search needs)
+    grown-requires
+    (λ c. search needs)
+    (λ c. search needs))

@@ -6,8 +6,7 @@ use mathlib.Core.List.{List}
 use mathlib.Core.Logic.{⊎-elim}
 use lib.ListN.{length, take}
 use lib.Seq.{take-length}
-use Rattle.grow.specs.Steps.{written}
-use Rattle.papers.specs.Steps.{selected}
+use Rattle.papers.specs.Steps.{written, selected}
 use Rattle.papers.proofs.Selecting.{Selecting, selecting-none, selecting-taken, selecting-left, room-for-one}
 use Rattle.papers.proofs.select.Statement.{statement}
 use Rattle.papers.proofs.select.Tie as tie

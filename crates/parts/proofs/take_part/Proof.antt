@@ -12,11 +12,9 @@ returns c =
     let a = start .before .before .args in
     let found = back .before .before .before .before .before .part-of-lowest in
     let stored = c .before .before .before .before .before .before .put in
-    let moved = c .before .before .move-down in (
-      found .result .y,
-      taken (take (a .n) (a .work .now)) (found .last .0) (moved .last .0) (a .room .now) (stored .last .1 .0) (a .n) (found .result .y) (found .result .part)
-          (found .result .rest) (found .ensures .1) (found .ensures .2) (stored .ensures) (moved .ensures),
-    )
+    let moved = c .before .before .move-down in
+    taken (take (a .n) (a .work .now)) (found .last .0) (moved .last .0) (a .room .now) (stored .last .1 .0) (a .n) (found .result .y) (found .result .part)
+    (found .result .rest) (found .ensures .1) (found .ensures .2) (stored .ensures) (moved .ensures)
 
 pub take-part-spec : {M : Type 1} → statement M
 take-part-spec =
