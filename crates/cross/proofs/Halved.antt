@@ -7,12 +7,12 @@ use lib.ListN.{length}
 use Rattle.ring.specs.Same.{SameProducts}
 use Rattle.ring.specs.Run.{Decides}
 use Rattle.ring.proofs.Series.{times, laws}
-use Rattle.ring.proofs.Ratio.{ratio-trans, ratio-sym, cross-of-others}
+use Rattle.ring.proofs.Ratio.{ratio-trans, ratio-sym}
 use Rattle.ring.proofs.Value.{value, join, Equal, Equations, halves-from-product, product-from-halves}
-use Rattle.ring.proofs.Cases.{mirror, free-split, free-join, whole-from-cross, whole-other-cross}
+use Rattle.ring.proofs.Cases.{mirror, free-split, free-join}
 use Rattle.ring.proofs.Bridge.{same-from-equal, equal-from-same}
 use Rattle.ring.proofs.Runs.{run-nonzero}
-use Rattle.cross.specs.Asked.{Runs, Halved, Halves, Joined, Ratios, OneRatio, Whole, Outer}
+use Rattle.cross.specs.Asked.{Runs, Halved, Halves, Joined, Ratios, OneRatio, Both}
 use Rattle.cross.proofs.Uncut.{decides-by, value-of-empty, decided-yes, decided-no, same-swapped, same-exchanged}
 
 -- ---- the three equations
@@ -51,31 +51,59 @@ module _ (k : ℕ) (a₀ a₁ d₀ d₁ b₀ b₁ c₀ c₁ : List ℕ) (p : Hal
 -- ---- three ratios
 
 module _ (k : ℕ) (p₁ q₁ p₂ q₂ p₃ q₃ : List ℕ) where
-  -- asked from the second: p₂ / q₂ = p₁ / q₁ and p₂ / q₂ = p₃ / q₃
-  pub ratio-from-second : Ratios k p₁ q₁ p₂ q₂ p₃ q₃ → 0 < length q₂ → (r : Bool)
-      → Decides r (SameProducts k p₂ q₁ q₂ p₁ × SameProducts k p₂ q₃ q₂ p₃) → Decides r (OneRatio k p₁ q₁ p₂ q₂ p₃ q₃)
-  ratio-from-second u h r = decides-by r forth back-again
-    where
-      forth : SameProducts k p₂ q₁ q₂ p₁ × SameProducts k p₂ q₃ q₂ p₃ → OneRatio k p₁ q₁ p₂ q₂ p₃ q₃
-      forth s =
-          let first-two : Equal k p₁ q₂ q₁ p₂ = ratio-sym (laws k) (value k p₂) (value k q₂) (value k p₁) (value k q₁) (equal-from-same k p₂ q₁ q₂ p₁ (s .0)) in (
-            same-from-equal k p₁ q₂ q₁ p₂ first-two,
-            same-from-equal k p₁ q₃ q₁ p₃
-                (ratio-trans (laws k) (value k p₁) (value k q₁) (value k p₂) (value k q₂) (value k p₃) (value k q₃) (run-nonzero k q₂ (u .run-q₂) h) first-two (equal-from-same k p₂ q₃ q₂ p₃ (s .1))),
-          )
+  module _ (u : Ratios k p₁ q₁ p₂ q₂ p₃ q₃) where
+    -- the lists of the two questions
+    pub runs-second : Runs k p₁ q₂ q₁ p₂
+    runs-second = record { run-a = u .run-p₁; run-d = u .run-q₂; run-b = u .run-q₁; run-c = u .run-p₂ }
 
-      back-again : OneRatio k p₁ q₁ p₂ q₂ p₃ q₃ → SameProducts k p₂ q₁ q₂ p₁ × SameProducts k p₂ q₃ q₂ p₃
-      back-again s =
-          let first-two : Equal k p₂ q₁ q₂ p₁ = ratio-sym (laws k) (value k p₁) (value k q₁) (value k p₂) (value k q₂) (equal-from-same k p₁ q₂ q₁ p₂ (s .0)) in (
-            same-from-equal k p₂ q₁ q₂ p₁ first-two,
-            same-from-equal k p₂ q₃ q₂ p₃
-                (ratio-trans (laws k) (value k p₂) (value k q₂) (value k p₁) (value k q₁) (value k p₃) (value k q₃) (run-nonzero k q₁ (u .run-q₁) (u .some-q₁)) first-two (equal-from-same k p₁ q₃ q₁ p₃ (s .1))),
-          )
+    pub runs-third : Runs k p₁ q₃ q₁ p₃
+    runs-third = record { run-a = u .run-p₁; run-d = u .run-q₃; run-b = u .run-q₁; run-c = u .run-p₃ }
+
+    -- the second or the third comes first
+    pub ratios-second : 0 < length q₂ → Ratios k p₂ q₂ p₁ q₁ p₃ q₃
+    ratios-second h = record {
+      run-p₁ = u .run-p₂;
+      run-q₁ = u .run-q₂;
+      run-p₂ = u .run-p₁;
+      run-q₂ = u .run-q₁;
+      run-p₃ = u .run-p₃;
+      run-q₃ = u .run-q₃;
+      some-q₁ = h;
+    }
+
+    pub ratios-third : 0 < length q₃ → Ratios k p₃ q₃ p₁ q₁ p₂ q₂
+    ratios-third h = record {
+      run-p₁ = u .run-p₃;
+      run-q₁ = u .run-q₃;
+      run-p₂ = u .run-p₁;
+      run-q₂ = u .run-q₁;
+      run-p₃ = u .run-p₂;
+      run-q₃ = u .run-q₂;
+      some-q₁ = h;
+    }
+
+  -- the two questions in the other order
+  pub ratio-turned-round : (r : Bool) → Decides r (OneRatio k p₁ q₁ p₃ q₃ p₂ q₂) → Decides r (OneRatio k p₁ q₁ p₂ q₂ p₃ q₃)
+  ratio-turned-round r = decides-by r (λ t. (t .1, t .0)) (λ t. (t .1, t .0))
+
+  -- asked from the second: p₂ / q₂ = p₁ / q₁ and p₂ / q₂ = p₃ / q₃
+  ratio-moved : Ratios k p₁ q₁ p₂ q₂ p₃ q₃ → OneRatio k p₁ q₁ p₂ q₂ p₃ q₃ → OneRatio k p₂ q₂ p₁ q₁ p₃ q₃
+  ratio-moved u s =
+      let first-two : Equal k p₂ q₁ q₂ p₁ = ratio-sym (laws k) (value k p₁) (value k q₁) (value k p₂) (value k q₂) (equal-from-same k p₁ q₂ q₁ p₂ (s .0)) in (
+        same-from-equal k p₂ q₁ q₂ p₁ first-two,
+        same-from-equal k p₂ q₃ q₂ p₃
+            (ratio-trans (laws k) (value k p₂) (value k q₂) (value k p₁) (value k q₁) (value k p₃) (value k q₃) (run-nonzero k q₁ (u .run-q₁) (u .some-q₁)) first-two (equal-from-same k p₁ q₃ q₁ p₃ (s .1))),
+      )
+
+pub ratio-from-second : (k : ℕ) (p₁ q₁ p₂ q₂ p₃ q₃ : List ℕ) → Ratios k p₁ q₁ p₂ q₂ p₃ q₃ → 0 < length q₂ → (r : Bool)
+    → Decides r (OneRatio k p₂ q₂ p₁ q₁ p₃ q₃) → Decides r (OneRatio k p₁ q₁ p₂ q₂ p₃ q₃)
+ratio-from-second k p₁ q₁ p₂ q₂ p₃ q₃ u h r =
+    decides-by r (ratio-moved k p₂ q₂ p₁ q₁ p₃ q₃ (ratios-second k p₁ q₁ p₂ q₂ p₃ q₃ u h)) (ratio-moved k p₁ q₁ p₂ q₂ p₃ q₃ u)
 
 pub ratio-from-third : (k : ℕ) (p₁ q₁ p₂ q₂ p₃ q₃ : List ℕ) → Ratios k p₁ q₁ p₂ q₂ p₃ q₃ → 0 < length q₃ → (r : Bool)
-    → Decides r (SameProducts k p₃ q₁ q₃ p₁ × SameProducts k p₃ q₂ q₃ p₂) → Decides r (OneRatio k p₁ q₁ p₂ q₂ p₃ q₃)
+    → Decides r (OneRatio k p₃ q₃ p₁ q₁ p₂ q₂) → Decides r (OneRatio k p₁ q₁ p₂ q₂ p₃ q₃)
 ratio-from-third k p₁ q₁ p₂ q₂ p₃ q₃ u h r s =
-    decides-by r (λ t. (t .1, t .0)) (λ t. (t .1, t .0))
+    ratio-turned-round k p₁ q₁ p₂ q₂ p₃ q₃ r
     (ratio-from-second k p₁ q₁ p₃ q₃ p₂ q₂
     (record { run-p₁ = u .run-p₁; run-q₁ = u .run-q₁; run-p₂ = u .run-p₃; run-q₂ = u .run-q₃; run-p₃ = u .run-p₂; run-q₃ = u .run-q₂; some-q₁ = u .some-q₁ })
     h r s)
@@ -124,110 +152,11 @@ pub joined-exchanged : (k : ℕ) (a₀ a₁ d₀ d₁ b₀ b₁ c₀ c₁ : List
 joined-exchanged k a₀ a₁ d₀ d₁ b₀ b₁ c₀ c₁ r =
     decides-by r (same-exchanged (suc k) (a₀ ++ a₁) (d₀ ++ d₁) (b₀ ++ b₁) (c₀ ++ c₁)) (same-exchanged (suc k) (d₀ ++ d₁) (a₀ ++ a₁) (c₀ ++ c₁) (b₀ ++ b₁))
 
--- ---- all eight halves are there
-
-module _ (k : ℕ) (a₀ a₁ d₀ d₁ b₀ b₁ c₀ c₁ : List ℕ) (w : Whole k a₀ a₁ d₀ d₁ b₀ b₁ c₀ c₁) where
-  pub runs-high : Runs k a₁ d₁ b₁ c₁
-  runs-high = record { run-a = w .halves .of-a .run-high; run-d = w .halves .of-d .run-high; run-b = w .halves .of-b .run-high; run-c = w .halves .of-c .run-high }
-
-  pub runs-low : Runs k a₀ d₀ b₀ c₀
-  runs-low = record { run-a = w .halves .of-a .run-low; run-d = w .halves .of-d .run-low; run-b = w .halves .of-b .run-low; run-c = w .halves .of-c .run-low }
-
-  pub runs-crossed : Runs k a₁ b₀ a₀ b₁
-  runs-crossed = record { run-a = w .halves .of-a .run-high; run-d = w .halves .of-b .run-low; run-b = w .halves .of-a .run-low; run-c = w .halves .of-b .run-high }
-
-  pub runs-others : Runs k c₁ d₀ c₀ d₁
-  runs-others = record { run-a = w .halves .of-c .run-high; run-d = w .halves .of-d .run-low; run-b = w .halves .of-c .run-low; run-c = w .halves .of-d .run-high }
-
-  pub whole-swapped : Whole k a₀ a₁ d₀ d₁ c₀ c₁ b₀ b₁
-  whole-swapped = record {
-    halves = halves-swapped k a₀ a₁ d₀ d₁ b₀ b₁ c₀ c₁ (w .halves);
-    some-a₀ = w .some-a₀;
-    some-a₁ = w .some-a₁;
-    some-d₀ = w .some-d₀;
-    some-d₁ = w .some-d₁;
-    some-b₀ = w .some-c₀;
-    some-b₁ = w .some-c₁;
-    some-c₀ = w .some-b₀;
-    some-c₁ = w .some-b₁;
-  }
-
-  module _ (p : Bool) (asked : Decides p (Outer k a₀ a₁ d₀ d₁ b₀ b₁ c₀ c₁)) where
-    pub differ-if-outer-fails : p ≡ false → ¬ Joined k a₀ a₁ d₀ d₁ b₀ b₁ c₀ c₁
-    differ-if-outer-fails e j =
-        let t = three-of k a₀ a₁ d₀ d₁ b₀ b₁ c₀ c₁ (w .halves) j in
-        decided-no p e asked (same-from-equal k a₁ d₁ b₁ c₁ (t .high), same-from-equal k a₀ d₀ b₀ c₀ (t .low))
-
-    module _ (held : p ≡ true) where
-      pub outer-holds : Outer k a₀ a₁ d₀ d₁ b₀ b₁ c₀ c₁
-      outer-holds = decided-yes p held asked
-
-      outer-high : Equal k a₁ d₁ b₁ c₁
-      outer-high = equal-from-same k a₁ d₁ b₁ c₁ (outer-holds .0)
-
-      outer-low : Equal k a₀ d₀ b₀ c₀
-      outer-low = equal-from-same k a₀ d₀ b₀ c₀ (outer-holds .1)
-
-      pub joined-if-crossed : (q : Bool) → Decides q (SameProducts k a₁ b₀ a₀ b₁) → q ≡ true → Joined k a₀ a₁ d₀ d₁ b₀ b₁ c₀ c₁
-      joined-if-crossed q h e =
-          joined-of k a₀ a₁ d₀ d₁ b₀ b₁ c₀ c₁ (w .halves)
-          (whole-from-cross k (value k a₀) (value k a₁) (value k d₀) (value k d₁) (value k b₀) (value k b₁) (value k c₀) (value k c₁) outer-high outer-low
-          (run-nonzero k b₀ (w .halves .of-b .run-low) (w .some-b₀)) (run-nonzero k b₁ (w .halves .of-b .run-high) (w .some-b₁))
-          (equal-from-same k a₁ b₀ a₀ b₁ (decided-yes q e h)))
-
-      pub outer-swapped : Outer k a₀ a₁ d₀ d₁ c₀ c₁ b₀ b₁
-      outer-swapped = (same-swapped k a₁ d₁ c₁ b₁ (outer-holds .0), same-swapped k a₀ d₀ c₀ b₀ (outer-holds .1))
-
-      -- the second cross question decides where the first one failed
-      other-cross : ¬ SameProducts k a₁ b₀ a₀ b₁ → Joined k a₀ a₁ d₀ d₁ b₀ b₁ c₀ c₁ → SameProducts k a₁ c₀ a₀ c₁
-      other-cross n j =
-          same-from-equal k a₁ c₀ a₀ c₁
-          (whole-other-cross k (value k a₀) (value k a₁) (value k d₀) (value k d₁) (value k b₀) (value k b₁) (value k c₀) (value k c₁) outer-high outer-low
-          (λ e. n (same-from-equal k a₁ b₀ a₀ b₁ e)) (three-of k a₀ a₁ d₀ d₁ b₀ b₁ c₀ c₁ (w .halves) j))
-
-  -- asked of c and d instead
-  pub crossed-by-others : Outer k a₀ a₁ d₀ d₁ b₀ b₁ c₀ c₁ → (r : Bool) → Decides r (SameProducts k c₁ d₀ c₀ d₁) → Decides r (SameProducts k a₁ b₀ a₀ b₁)
-  crossed-by-others o r = decides-by r forth back-again
-    where
-      high : Equal k a₁ d₁ b₁ c₁
-      high = equal-from-same k a₁ d₁ b₁ c₁ (o .0)
-
-      low : Equal k a₀ d₀ b₀ c₀
-      low = equal-from-same k a₀ d₀ b₀ c₀ (o .1)
-
-      forth : SameProducts k c₁ d₀ c₀ d₁ → SameProducts k a₁ b₀ a₀ b₁
-      forth s =
-          same-from-equal k a₁ b₀ a₀ b₁
-          (cross-of-others (laws k) (value k c₀) (value k c₁) (value k b₀) (value k b₁) (value k d₀) (value k d₁) (value k a₀) (value k a₁)
-          (ratio-sym (laws k) (value k a₁) (value k b₁) (value k c₁) (value k d₁) high) (ratio-sym (laws k) (value k a₀) (value k b₀) (value k c₀) (value k d₀) low)
-          (run-nonzero k d₀ (w .halves .of-d .run-low) (w .some-d₀)) (run-nonzero k d₁ (w .halves .of-d .run-high) (w .some-d₁))
-          (equal-from-same k c₁ d₀ c₀ d₁ s))
-
-      back-again : SameProducts k a₁ b₀ a₀ b₁ → SameProducts k c₁ d₀ c₀ d₁
-      back-again s =
-          same-from-equal k c₁ d₀ c₀ d₁
-          (cross-of-others (laws k) (value k a₀) (value k a₁) (value k d₀) (value k d₁) (value k b₀) (value k b₁) (value k c₀) (value k c₁) high low
-          (run-nonzero k b₀ (w .halves .of-b .run-low) (w .some-b₀)) (run-nonzero k b₁ (w .halves .of-b .run-high) (w .some-b₁))
-          (equal-from-same k a₁ b₀ a₀ b₁ s))
-
-pub joined-if-crossed-other : (k : ℕ) (a₀ a₁ d₀ d₁ b₀ b₁ c₀ c₁ : List ℕ) (w : Whole k a₀ a₁ d₀ d₁ b₀ b₁ c₀ c₁) (p : Bool) (asked : Decides p (Outer k a₀ a₁ d₀ d₁ b₀ b₁ c₀ c₁)) (held : p ≡ true)
-    → (q : Bool) → Decides q (SameProducts k a₁ b₀ a₀ b₁) → q ≡ false → (r : Bool) → Decides r (SameProducts k a₁ c₀ a₀ c₁) → Decides r (Joined k a₀ a₁ d₀ d₁ b₀ b₁ c₀ c₁)
-joined-if-crossed-other k a₀ a₁ d₀ d₁ b₀ b₁ c₀ c₁ w p asked held q h failed r =
-    decides-by r
-    (λ s.
-    same-swapped (suc k) (a₀ ++ a₁) (d₀ ++ d₁) (b₀ ++ b₁) (c₀ ++ c₁)
-    (joined-if-crossed k a₀ a₁ d₀ d₁ c₀ c₁ b₀ b₁ (whole-swapped k a₀ a₁ d₀ d₁ b₀ b₁ c₀ c₁ w) true (outer-swapped k a₀ a₁ d₀ d₁ b₀ b₁ c₀ c₁ w p asked held) refl true s refl))
-    (other-cross k a₀ a₁ d₀ d₁ b₀ b₁ c₀ c₁ w p asked held (decided-no q failed h))
-
 -- ---- two questions
 
-module _ (k : ℕ) (a₀ a₁ d₀ d₁ b₀ b₁ c₀ c₁ : List ℕ) where
-  module _ (q : Bool) (asked : Decides q (SameProducts k a₁ d₁ b₁ c₁)) where
-    pub outer-by-low : q ≡ true → (r : Bool) → Decides r (SameProducts k a₀ d₀ b₀ c₀) → Decides r (Outer k a₀ a₁ d₀ d₁ b₀ b₁ c₀ c₁)
-    outer-by-low e r = decides-by r (λ t. (decided-yes q e asked, t)) (λ z. z .1)
+module _ (k : ℕ) (a₀ a₁ d₀ d₁ b₀ b₁ c₀ c₁ : List ℕ) (q : Bool) (asked : Decides q (SameProducts k a₁ d₁ b₁ c₁)) where
+  pub both-by-second : q ≡ true → (r : Bool) → Decides r (SameProducts k a₀ d₀ b₀ c₀) → Decides r (Both k a₀ a₁ d₀ d₁ b₀ b₁ c₀ c₁)
+  both-by-second e r = decides-by r (λ t. (decided-yes q e asked, t)) (λ z. z .1)
 
-    pub differ-if-high-fails : q ≡ false → ¬ Outer k a₀ a₁ d₀ d₁ b₀ b₁ c₀ c₁
-    differ-if-high-fails e o = decided-no q e asked (o .0)
-
-  pub outer-turned : (r : Bool) → Decides r (Outer k a₁ a₀ d₁ d₀ b₁ b₀ c₁ c₀) → Decides r (Outer k a₀ a₁ d₀ d₁ b₀ b₁ c₀ c₁)
-  outer-turned r = decides-by r (λ z. (z .1, z .0)) (λ z. (z .1, z .0))
+  pub differ-if-first-fails : q ≡ false → ¬ Both k a₀ a₁ d₀ d₁ b₀ b₁ c₀ c₁
+  differ-if-first-fails e o = decided-no q e asked (o .0)

@@ -2,4 +2,5 @@
 pub mod Uncut
 pub mod Lent
 pub mod Halved
+pub mod Ways
 pub mod Shapes

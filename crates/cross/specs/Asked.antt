@@ -58,6 +58,30 @@ pub record Whole (k : ℕ) (a₀ a₁ d₀ d₁ b₀ b₁ c₀ c₁ : List ℕ) 
   pub some-c₀ : 0 < length c₀
   pub some-c₁ : 0 < length c₁
 
--- the equations of the halves with the variable and of those without it
-abbrev pub Outer : ℕ → List ℕ → List ℕ → List ℕ → List ℕ → List ℕ → List ℕ → List ℕ → List ℕ → Type 0
-Outer k a₀ a₁ d₀ d₁ b₀ b₁ c₀ c₁ = SameProducts k a₁ d₁ b₁ c₁ × SameProducts k a₀ d₀ b₀ c₀
+-- the same with no word on the variable: eight runs that are not empty, so that the two of a list may change places
+pub record Eight (k : ℕ) (a₀ a₁ d₀ d₁ b₀ b₁ c₀ c₁ : List ℕ) : Type 0 where
+  pub runs-low : Runs k a₀ d₀ b₀ c₀
+  pub runs-high : Runs k a₁ d₁ b₁ c₁
+  pub some-a₀ : 0 < length a₀
+  pub some-a₁ : 0 < length a₁
+  pub some-d₀ : 0 < length d₀
+  pub some-d₁ : 0 < length d₁
+  pub some-b₀ : 0 < length b₀
+  pub some-b₁ : 0 < length b₁
+  pub some-c₀ : 0 < length c₀
+  pub some-c₁ : 0 < length c₁
+
+-- a₁ / b₁ = c₁ / d₁, which also says a₁ / c₁ = b₁ / d₁, and either a₀ / b₀ and c₀ / d₀ are that ratio too, or a₀ / c₀ and b₀ / d₀ are this one
+pub record Agree (k : ℕ) (a₀ a₁ d₀ d₁ b₀ b₁ c₀ c₁ : List ℕ) : Type 0 where
+  pub first : SameProducts k a₁ d₁ b₁ c₁
+  pub ways : ¬ OneRatio k a₁ b₁ a₀ b₀ c₀ d₀ → OneRatio k a₁ c₁ a₀ c₀ b₀ d₀
+
+-- r says how p₁ / q₁ stands to two ratios: 2 if the three are one, and 1 only if those two differ
+pub record Stands (r k : ℕ) (p₁ q₁ p₂ q₂ p₃ q₃ : List ℕ) : Type 0 where
+  pub one : r ≡ 2 → OneRatio k p₁ q₁ p₂ q₂ p₃ q₃
+  pub not-one : ¬ (r ≡ 2) → ¬ OneRatio k p₁ q₁ p₂ q₂ p₃ q₃
+  pub differ : r ≡ 1 → ¬ SameProducts k p₂ q₃ q₂ p₃
+
+-- two equations
+abbrev pub Both : ℕ → List ℕ → List ℕ → List ℕ → List ℕ → List ℕ → List ℕ → List ℕ → List ℕ → Type 0
+Both k a₀ a₁ d₀ d₁ b₀ b₁ c₀ c₁ = SameProducts k a₁ d₁ b₁ c₁ × SameProducts k a₀ d₀ b₀ c₀

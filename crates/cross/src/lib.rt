@@ -9,7 +9,8 @@ ghost use Rattle.ring.specs.Same.{SameProducts};
 ghost use Rattle.ring.specs.Run.{Decides};
 ghost use Rattle.ring.specs.Ends.{Four};
 ghost use Rattle.runs.specs.Read.{shape};
-ghost use Rattle.cross.specs.Asked.{Runs, Halves, Joined, Ratios, OneRatio, Whole, Outer};
+ghost use lib.ListN.{length};
+ghost use Rattle.cross.specs.Asked.{Runs, Halves, Joined, Ratios, OneRatio, Whole, Both, Eight, Agree, Stands};
 
 // The four-list test: whether AD = BC, on the variables below k.
 pub fn same(a: &[u64], d: &[u64], b: &[u64], c: &[u64], k: u64) -> bool
@@ -22,22 +23,14 @@ pub fn same(a: &[u64], d: &[u64], b: &[u64], c: &[u64], k: u64) -> bool
     if runs::vanish(b, c) {
         return false;
     }
-    let w = runs::left(runs::vary(a, d, b, c, k), k);
-    if runs::within(runs::clash(a, d, b, c, k), w, k) {
-        return false;
-    }
-    settle(a, d, b, c, w)
+    settle(a, d, b, c, k)
 }
 
-// The same, where no list is empty: with one term on each side the others match in order, and a list that stands on both sides
-// leaves a comparison.
+// The same, where no list is empty: with one term on each side the others match in order.
 fn settle(a: &[u64], d: &[u64], b: &[u64], c: &[u64], k: u64) -> bool
     requires { ⌜ (k ≤ 64) × Four k (now a) (now d) (now b) (now c) ⌝ }
     ensures { λ r. ⌜ Decides r (SameProducts k (now (a .entry)) (now (d .entry)) (now (b .entry)) (now (c .entry))) ⌝ }
 {
-    if k == 0 {
-        return true;
-    }
     if a.len() == 1 {
         if b.len() == 1 {
             return runs::matched(a[0], b[0], d, c, k);
@@ -53,6 +46,29 @@ fn settle(a: &[u64], d: &[u64], b: &[u64], c: &[u64], k: u64) -> bool
         if c.len() == 1 {
             return runs::matched(d[0], c[0], a, b, k);
         }
+    }
+    skip(a, d, b, c, k)
+}
+
+// The same without the constant variables on top, which stand equally often on either side or refuse.
+fn skip(a: &[u64], d: &[u64], b: &[u64], c: &[u64], k: u64) -> bool
+    requires { ⌜ (k ≤ 64) × Four k (now a) (now d) (now b) (now c) ⌝ }
+    ensures { λ r. ⌜ Decides r (SameProducts k (now (a .entry)) (now (d .entry)) (now (b .entry)) (now (c .entry))) ⌝ }
+{
+    let w = runs::left(runs::vary(a, d, b, c, k), k);
+    if runs::within(runs::clash(a, d, b, c, k), w, k) {
+        return false;
+    }
+    unlike(a, d, b, c, w)
+}
+
+// The same: a list that stands on both sides leaves a comparison, and else the lists are cut.
+fn unlike(a: &[u64], d: &[u64], b: &[u64], c: &[u64], k: u64) -> bool
+    requires { ⌜ (k ≤ 64) × Four k (now a) (now d) (now b) (now c) ⌝ }
+    ensures { λ r. ⌜ Decides r (SameProducts k (now (a .entry)) (now (d .entry)) (now (b .entry)) (now (c .entry))) ⌝ }
+{
+    if k == 0 {
+        return true;
     }
     if runs::alike(a, b, k) {
         return runs::alike(d, c, k);
@@ -146,7 +162,7 @@ fn opposed(
     whole(a0, a1, d0, d1, b0, b1, c0, c1, k)
 }
 
-// Whether three ratios are one: the smallest is asked against the other two.
+// Whether three ratios are one: the smallest is asked against the other two. Of equally small ones the first comes last.
 fn ratios(p1: &[u64], q1: &[u64], p2: &[u64], q2: &[u64], p3: &[u64], q3: &[u64], k: u64) -> bool
     requires { ⌜ (k < 64) × Ratios k (now p1) (now q1) (now p2) (now q2) (now p3) (now q3) ⌝ }
     ensures { λ r. ⌜ Decides r (OneRatio k (now (p1 .entry)) (now (q1 .entry)) (now (p2 .entry)) (now (q2 .entry)) (now (p3 .entry)) (now (q3 .entry))) ⌝ }
@@ -155,16 +171,27 @@ fn ratios(p1: &[u64], q1: &[u64], p2: &[u64], q2: &[u64], p3: &[u64], q3: &[u64]
     let s2 = p2.len() + q2.len();
     let s3 = p3.len() + q3.len();
     if 0 < q2.len() {
-        if s2 < s1 {
-            if s2 < s3 {
-                return both(p2, q1, q2, p1, p2, q3, q2, p3, k);
+        if s2 <= s1 {
+            if s2 <= s3 {
+                return against(p2, q2, p1, q1, p3, q3, k);
             }
         }
     }
     if 0 < q3.len() {
-        if s3 < s1 {
-            return both(p3, q1, q3, p1, p3, q2, q3, p2, k);
+        if s3 <= s1 {
+            return against(p3, q3, p1, q1, p2, q2, k);
         }
+    }
+    against(p1, q1, p2, q2, p3, q3, k)
+}
+
+// A ratio against two others, the smaller of them first.
+fn against(p1: &[u64], q1: &[u64], p2: &[u64], q2: &[u64], p3: &[u64], q3: &[u64], k: u64) -> bool
+    requires { ⌜ (k < 64) × Ratios k (now p1) (now q1) (now p2) (now q2) (now p3) (now q3) ⌝ }
+    ensures { λ r. ⌜ Decides r (OneRatio k (now (p1 .entry)) (now (q1 .entry)) (now (p2 .entry)) (now (q2 .entry)) (now (p3 .entry)) (now (q3 .entry))) ⌝ }
+{
+    if p3.len() + q3.len() < p2.len() + q2.len() {
+        return both(p1, q3, q1, p3, p1, q2, q1, p2, k);
     }
     both(p1, q2, q1, p2, p1, q3, q1, p3, k)
 }
@@ -183,7 +210,7 @@ fn both(
 ) -> bool
     requires { ⌜ (k < 64) × Runs k (now a1) (now d1) (now b1) (now c1) ⌝ }
     requires { ⌜ Runs k (now a0) (now d0) (now b0) (now c0) ⌝ }
-    ensures { λ r. ⌜ Decides r (Outer k (now (a0 .entry)) (now (a1 .entry)) (now (d0 .entry)) (now (d1 .entry)) (now (b0 .entry)) (now (b1 .entry)) (now (c0 .entry)) (now (c1 .entry))) ⌝ }
+    ensures { λ r. ⌜ Decides r (Both k (now (a0 .entry)) (now (a1 .entry)) (now (d0 .entry)) (now (d1 .entry)) (now (b0 .entry)) (now (b1 .entry)) (now (c0 .entry)) (now (c1 .entry))) ⌝ }
 {
     if same(a1, d1, b1, c1, k) {
         return same(a0, d0, b0, c0, k);
@@ -191,7 +218,7 @@ fn both(
     false
 }
 
-// All eight halves are there: the two outer equations, the smaller first, then a cross question or the other one.
+// All eight halves are there: the smaller of the two outer equations is to be asked first.
 fn whole(
     a0: &[u64],
     a1: &[u64],
@@ -206,17 +233,48 @@ fn whole(
     requires { ⌜ (k < 64) × Whole k (now a0) (now a1) (now d0) (now d1) (now b0) (now b1) (now c0) (now c1) ⌝ }
     ensures { λ r. ⌜ Decides r (Joined k (now (a0 .entry)) (now (a1 .entry)) (now (d0 .entry)) (now (d1 .entry)) (now (b0 .entry)) (now (b1 .entry)) (now (c0 .entry)) (now (c1 .entry))) ⌝ }
 {
-    if outer(a0, a1, d0, d1, b0, b1, c0, c1, k) {
-        if crossed(a0, a1, d0, d1, b0, b1, c0, c1, k) {
+    let low = a0.len() + d0.len() + b0.len() + c0.len();
+    let high = a1.len() + d1.len() + b1.len() + c1.len();
+    if low < high {
+        return agree(a1, a0, d1, d0, b1, b0, c1, c0, k);
+    }
+    agree(a0, a1, d0, d1, b0, b1, c0, c1, k)
+}
+
+// Whether the four ratios A / B and C / D of the halves are one, or the four ratios A / C and B / D are. The first question belongs to
+// both; where the ratios without the variable differ neither can be.
+fn agree(
+    a0: &[u64],
+    a1: &[u64],
+    d0: &[u64],
+    d1: &[u64],
+    b0: &[u64],
+    b1: &[u64],
+    c0: &[u64],
+    c1: &[u64],
+    k: u64,
+) -> bool
+    requires { ⌜ (k < 64) × Eight k (now a0) (now a1) (now d0) (now d1) (now b0) (now b1) (now c0) (now c1) ⌝ }
+    ensures { λ r. ⌜ Decides r (Agree k (now (a0 .entry)) (now (a1 .entry)) (now (d0 .entry)) (now (d1 .entry)) (now (b0 .entry)) (now (b1 .entry)) (now (c0 .entry)) (now (c1 .entry))) ⌝ }
+{
+    if same(a1, d1, b1, c1, k) {
+        let one = stand(a0, a1, d0, d1, b0, b1, c0, c1, k);
+        if one == 2 {
             return true;
         }
-        return crossed(a0, a1, d0, d1, c0, c1, b0, b1, k);
+        if one == 1 {
+            return false;
+        }
+        let other = stand(a0, a1, d0, d1, c0, c1, b0, b1, k);
+        if other == 2 {
+            return true;
+        }
     }
     false
 }
 
-// The equation of the halves with the variable and that of the halves without it, the smaller first.
-fn outer(
+// How A1 / B1 stands to A0 / B0 and C0 / D0: the smaller of it and C1 / D1, which are one, is held against these.
+fn stand(
     a0: &[u64],
     a1: &[u64],
     d0: &[u64],
@@ -226,38 +284,28 @@ fn outer(
     c0: &[u64],
     c1: &[u64],
     k: u64,
-) -> bool
-    requires { ⌜ (k < 64) × Whole k (now a0) (now a1) (now d0) (now d1) (now b0) (now b1) (now c0) (now c1) ⌝ }
-    ensures { λ r. ⌜ Decides r (Outer k (now (a0 .entry)) (now (a1 .entry)) (now (d0 .entry)) (now (d1 .entry)) (now (b0 .entry)) (now (b1 .entry)) (now (c0 .entry)) (now (c1 .entry))) ⌝ }
+) -> u64
+    requires { ⌜ (k < 64) × Eight k (now a0) (now a1) (now d0) (now d1) (now b0) (now b1) (now c0) (now c1) ⌝ }
+    requires { ⌜ SameProducts k (now a1) (now d1) (now b1) (now c1) ⌝ }
+    ensures { λ r. ⌜ Stands r k (now (a1 .entry)) (now (b1 .entry)) (now (a0 .entry)) (now (b0 .entry)) (now (c0 .entry)) (now (d0 .entry)) ⌝ }
 {
-    let low = a0.len() + d0.len() + b0.len() + c0.len();
-    let high = a1.len() + d1.len() + b1.len() + c1.len();
-    if low < high {
-        return both(a0, d0, b0, c0, a1, d1, b1, c1, k);
+    if c1.len() + d1.len() < a1.len() + b1.len() {
+        return compared(c1, d1, a0, b0, c0, d0, k);
     }
-    both(a1, d1, b1, c1, a0, d0, b0, c0, k)
+    compared(a1, b1, a0, b0, c0, d0, k)
 }
 
-// Whether A1 / B1 = A0 / B0, or what says the same of C and D, where those are smaller.
-fn crossed(
-    a0: &[u64],
-    a1: &[u64],
-    d0: &[u64],
-    d1: &[u64],
-    b0: &[u64],
-    b1: &[u64],
-    c0: &[u64],
-    c1: &[u64],
-    k: u64,
-) -> bool
-    requires { ⌜ (k < 64) × Whole k (now a0) (now a1) (now d0) (now d1) (now b0) (now b1) (now c0) (now c1) ⌝ }
-    requires { ⌜ Outer k (now a0) (now a1) (now d0) (now d1) (now b0) (now b1) (now c0) (now c1) ⌝ }
-    ensures { λ r. ⌜ Decides r (SameProducts k (now (a1 .entry)) (now (b0 .entry)) (now (a0 .entry)) (now (b1 .entry))) ⌝ }
+// How a ratio stands to two others: 2 if the three are one, 1 if it is the first of the two alone, 0 if it is not even that.
+fn compared(p1: &[u64], q1: &[u64], p2: &[u64], q2: &[u64], p3: &[u64], q3: &[u64], k: u64) -> u64
+    requires { ⌜ (k < 64) × Ratios k (now p1) (now q1) (now p2) (now q2) (now p3) (now q3) ⌝ }
+    requires { ⌜ 0 < length (now q2) ⌝ }
+    ensures { λ r. ⌜ Stands r k (now (p1 .entry)) (now (q1 .entry)) (now (p2 .entry)) (now (q2 .entry)) (now (p3 .entry)) (now (q3 .entry)) ⌝ }
 {
-    let one = a0.len() + a1.len() + b0.len() + b1.len();
-    let other = c0.len() + c1.len() + d0.len() + d1.len();
-    if other < one {
-        return same(c1, d0, c0, d1, k);
+    if same(p1, q2, q1, p2, k) {
+        if same(p1, q3, q1, p3, k) {
+            return 2;
+        }
+        return 1;
     }
-    same(a1, b0, a0, b1, k)
+    0
 }

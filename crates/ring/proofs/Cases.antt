@@ -5,7 +5,7 @@ use mathlib.Core.Bool.{Bool, true, false, _&&_, _||_, true≢false}
 use Prim.Native.Nat.{ℕ}
 use Rattle.ring.proofs.Domain.{mul-zero, product-nonzero}
 use Rattle.ring.proofs.Series.{R, nought, plus, times, laws}
-use Rattle.ring.proofs.Ratio.{cross-from-middle, middle-from-cross, degree-none}
+use Rattle.ring.proofs.Ratio.{ratio-trans, ratio-sym, cross-from-middle, middle-from-cross, degree-none}
 use Rattle.ring.proofs.Value.{Equations}
 
 module _ (n : ℕ) where
@@ -46,14 +46,35 @@ module _ (n : ℕ) where
       middle = drop-first a₁ d₀ a₀ d₁ ea ∙ p .0 ∙ sym (drop-first b₁ c₀ b₀ c₁ eb);
     }
 
-  -- ---- all halves are there
+  -- ---- all halves are there: a₁ / b₁, c₁ / d₁, a₀ / b₀, c₀ / d₀ are one, or a₁ / c₁, b₁ / d₁, a₀ / c₀, b₀ / d₀ are
 
-  module _ (a₀ a₁ d₀ d₁ b₀ b₁ c₀ c₁ : R n) (high : times n a₁ d₁ ≡ times n b₁ c₁) (low : times n a₀ d₀ ≡ times n b₀ c₀) where
-    pub whole-from-cross : ¬ (b₀ ≡ nought n) → ¬ (b₁ ≡ nought n) → times n a₁ b₀ ≡ times n a₀ b₁ → Equations n a₀ a₁ d₀ d₁ b₀ b₁ c₀ c₁
-    whole-from-cross nb₀ nb₁ e = record { high = high; low = low; middle = middle-from-cross (laws n) a₀ a₁ d₀ d₁ b₀ b₁ c₀ c₁ high low nb₀ nb₁ e }
+  pub equations-stable : (a₀ a₁ d₀ d₁ b₀ b₁ c₀ c₁ : R n) → ¬ ¬ Equations n a₀ a₁ d₀ d₁ b₀ b₁ c₀ c₁ → Equations n a₀ a₁ d₀ d₁ b₀ b₁ c₀ c₁
+  equations-stable a₀ a₁ d₀ d₁ b₀ b₁ c₀ c₁ h = record {
+    high = laws n .stable (times n a₁ d₁) (times n b₁ c₁) (λ m. h (λ e. m (e .high)));
+    low = laws n .stable (times n a₀ d₀) (times n b₀ c₀) (λ m. h (λ e. m (e .low)));
+    middle = laws n .stable (plus n (times n a₁ d₀) (times n a₀ d₁)) (plus n (times n b₁ c₀) (times n b₀ c₁)) (λ m. h (λ e. m (e .middle)));
+  }
 
-    pub whole-other-cross : ¬ (times n a₁ b₀ ≡ times n a₀ b₁) → Equations n a₀ a₁ d₀ d₁ b₀ b₁ c₀ c₁ → times n a₁ c₀ ≡ times n a₀ c₁
-    whole-other-cross ne e = cross-from-middle (laws n) a₀ a₁ d₀ d₁ b₀ b₁ c₀ c₁ high low (e .middle) ne
+  module _ (a₀ a₁ d₀ d₁ b₀ b₁ c₀ c₁ : R n) (nb₀ : ¬ (b₀ ≡ nought n)) where
+    -- four ratios that are one give the three equations
+    pub equations-one-way : ¬ (b₁ ≡ nought n) → times n a₁ d₁ ≡ times n b₁ c₁ → (times n a₁ b₀ ≡ times n b₁ a₀) × (times n a₁ d₀ ≡ times n b₁ c₀)
+        → Equations n a₀ a₁ d₀ d₁ b₀ b₁ c₀ c₁
+    equations-one-way nb₁ high e =
+        let low : times n a₀ d₀ ≡ times n b₀ c₀ = ratio-trans (laws n) a₀ b₀ a₁ b₁ c₀ d₀ nb₁ (ratio-sym (laws n) a₁ b₁ a₀ b₀ (e .0)) (e .1) in
+        record { high = high; low = low; middle = middle-from-cross (laws n) a₀ a₁ d₀ d₁ b₀ b₁ c₀ c₁ high low nb₀ nb₁ (e .0 ∙ laws n .mul-comm b₁ a₀) }
+
+    -- where the three equations hold and the first four are not one, the other four are
+    pub other-way : ¬ (c₀ ≡ nought n) → Equations n a₀ a₁ d₀ d₁ b₀ b₁ c₀ c₁ → ¬ ((times n a₁ b₀ ≡ times n b₁ a₀) × (times n a₁ d₀ ≡ times n b₁ c₀))
+        → (times n a₁ c₀ ≡ times n c₁ a₀) × (times n a₁ d₀ ≡ times n c₁ b₀)
+    other-way nc₀ e none =
+        let cross : times n a₁ c₀ ≡ times n a₀ c₁ = cross-from-middle (laws n) a₀ a₁ d₀ d₁ b₀ b₁ c₀ c₁ (e .high) (e .low) (e .middle) (λ f. none (one-way f)) in
+        let same : times n a₁ c₀ ≡ times n c₁ a₀ = cross ∙ laws n .mul-comm a₀ c₁ in
+        (same, ratio-trans (laws n) a₁ c₁ a₀ c₀ b₀ d₀ nc₀ same (e .low ∙ laws n .mul-comm b₀ c₀))
+      where
+        one-way : times n a₁ b₀ ≡ times n a₀ b₁ → (times n a₁ b₀ ≡ times n b₁ a₀) × (times n a₁ d₀ ≡ times n b₁ c₀)
+        one-way f =
+            let same : times n a₁ b₀ ≡ times n b₁ a₀ = f ∙ laws n .mul-comm a₀ b₁ in
+            (same, ratio-trans (laws n) a₁ b₁ a₀ b₀ c₀ d₀ nb₀ same (e .low))
 
   -- ---- which halves may be zero
 

@@ -54,12 +54,6 @@ module _ {K : Type 0} {o : K} {_+_ : K → K → K} {_*_ : K → K → K} (L : D
         (ratio-trans a₁ b₁ a₀ b₀ c₀ d₀ nb₀ (e ∙ L .mul-comm a₀ b₁) low)
         (ratio-trans a₀ b₀ a₁ b₁ c₁ d₁ nb₁ (sym e ∙ L .mul-comm a₁ b₀) high)
 
-    -- a₁ / b₁ = a₀ / b₀ exactly if c₁ / d₁ = c₀ / d₀
-    pub cross-of-others : ¬ (b₀ ≡ o) → ¬ (b₁ ≡ o) → a₁ * b₀ ≡ a₀ * b₁ → c₁ * d₀ ≡ c₀ * d₁
-    cross-of-others nb₀ nb₁ e =
-        ratio-trans c₁ d₁ a₁ b₁ c₀ d₀ nb₁ (ratio-sym a₁ b₁ c₁ d₁ high) (ratio-trans a₁ b₁ a₀ b₀ c₀ d₀ nb₀ (e ∙ L .mul-comm a₀ b₁) low)
-        ∙ L .mul-comm d₁ c₀
-
   -- ---- which halves may vanish
   module _ (a₀ a₁ d₀ d₁ b₀ b₁ c₀ c₁ : K) (high : a₁ * d₁ ≡ b₁ * c₁) (mid : a₁ * d₀ + a₀ * d₁ ≡ b₁ * c₀ + b₀ * c₁) where
     -- where the variable stands neither in a nor in d, it does not stand in b, unless c is zero
