@@ -31,9 +31,10 @@
  *     Inputs may overlap one another: same_products(a, a, a, a) is fine.
  *   - The library keeps no pointer, allocates nothing, has no state, and prints nothing. Calls from
  *     several threads at once are independent as long as no output of one is a slice of another.
- *   - It takes its room from the stack, and no proof says how much. Seen on x86-64: up to 80 kilobytes for multiply,
- *     which recurses once for each run of terms, up to 45 for same_products, which recurses once for each variable at
- *     most, and under 8 for the others. Leave it 256 kilobytes where threads have small stacks.
+ *   - It takes its room from the stack, and no proof says how much. No recursion is deeper than there are variables. The
+ *     comparison (rust/compare/run) measures it on x86-64, on inputs chosen to go deep, and fails if same_products takes
+ *     more than APFELRUDER_SAME_PRODUCTS_STACK_BYTES or another call more than APFELRUDER_STACK_BYTES. A stack that is
+ *     too small is not noticed; leave it some room above these where threads have small stacks.
  *
  * Linking
  *   - target/staticlib/libapfelruder.a (`rt staticlib apfelruder`) is for x86-64. For another machine
@@ -51,12 +52,16 @@
  * on still holds; the major number grows when it may not: another limit or buffer size, another shape or
  * meaning of an answer, a call that is gone. */
 #define APFELRUDER_VERSION_MAJOR 1
-#define APFELRUDER_VERSION_MINOR 0
+#define APFELRUDER_VERSION_MINOR 1
 #define APFELRUDER_VERSION (APFELRUDER_VERSION_MAJOR * 1000 + APFELRUDER_VERSION_MINOR)
 
 /* Limits of a list. */
 #define APFELRUDER_MAX_TERMS 1024
 #define APFELRUDER_MAX_VARS 64
+
+/* Bytes of stack that the comparison holds the calls to: read, write, multiply and split; same products. */
+#define APFELRUDER_STACK_BYTES 16384
+#define APFELRUDER_SAME_PRODUCTS_STACK_BYTES 49152
 
 /* What split needs for a list of t terms, in words of 64 bits. */
 #define APFELRUDER_PART_TERMS_WORDS(t) ((size_t)(t) + 64)

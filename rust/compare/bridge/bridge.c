@@ -4,7 +4,8 @@
  * All numbers are words of 64 bits in the machine's order. A call: its number (0 split, 1 multiply, 2 same products,
  * 3 read, 4 write); for each slice where it begins, in bytes, and its length; the length in words of the memory that
  * holds them all, and that memory. What comes back: the four numbers, and the memory as the call left it. The comparing
- * program lays the slices out, so it sees what was written between them.
+ * program lays the slices out, so it sees what was written between them. If 8 is added to the number of a call, the bytes
+ * of stack that it took come first.
  * Compiled with -DNO_SPLIT, -DNO_MULTIPLY, .. it does without that call. */
 #include "../../../include/apfelruder.h"
 
@@ -78,11 +79,31 @@ static apfelruder_answer make(uint64_t call) {
     }
 }
 
+/* The stack below the caller's frame, where the next function that it calls works: painted, or asked how many bytes, from
+ * the lowest, are still as they were painted. */
+enum { BELOW = 1 << 18, PAINT = 0xa5 };
+static __attribute__((noinline)) uint64_t below(int painting) {
+    unsigned char stack[BELOW];
+    uint64_t i = 0;
+    __asm__ volatile("" : "=m"(stack)); /* what earlier calls left there is what is asked */
+    if (painting)
+        for (; i < BELOW; i++) stack[i] = PAINT;
+    else
+        while (i < BELOW && stack[i] == PAINT) i++;
+    __asm__ volatile("" : : "m"(stack));
+    return i;
+}
+
 int main(void) {
     uint64_t call;
-    while (take(&call, 8) && call < 5) {
+    while (take(&call, 8) && (call & ~(uint64_t)8) < 5) {
+        int measured = call >= 8;
+        call %= 8;
         if (!take_memory(call)) return 1;
+        if (measured) below(1);
         apfelruder_answer answer = make(call);
+        uint64_t bytes = measured ? BELOW - below(0) : 0;
+        if (measured && !give(&bytes, 8)) return 1;
         if (!give(&answer, sizeof answer) || !give(memory, 8 * words)) return 1;
     }
     return 0;

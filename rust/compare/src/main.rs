@@ -2,20 +2,25 @@
 //!
 //!     compare [--bridge COMMAND ..]                fixed seeds, a few minutes
 //!     compare --seed N --seconds S [--bridge ..]   random lists, products, blocks and refusals for so long
+//!     compare --stack [--bridge ..]                only the stack that the calls take
 //!     compare --calls read,write ..                only these calls
 //!     compare --program COMMAND ..                 the printed split of a program
 //!
 //! Without --bridge the archive must have been linked in (feature "linked"). --bridge and --program take the rest of the
 //! line. Prints what was compared. Ends with 0 if there was no difference, with 1 at the first difference (what is
-//! printed then begins with DIFFERENCE), with 2 if nothing or not all could be compared: wrong usage, no bridge, no program.
+//! printed then begins with DIFFERENCE), with 2 if nothing or not all could be compared: wrong usage, no bridge, no program,
+//! with 3 if a call took more stack than include/apfelruder.h states. The run by time does not measure the stack.
 mod arena;
 mod call;
 mod families;
+#[cfg(any(test, feature = "linked"))]
+mod painted;
 mod peer;
 mod printed;
 mod random;
 mod report;
 mod run;
+mod stack;
 
 use call::Call;
 use families::{blocks, examples, kinds, lengths, lists, quadruples, refusals, shared, sizes, small};
@@ -27,17 +32,21 @@ struct Wishes {
     seed: Option<u64>,
     seconds: Option<u64>,
     calls: Vec<Call>,
+    stack_alone: bool,
     bridge: Vec<String>,
     program: Vec<String>,
 }
 
 fn wishes() -> Result<Wishes, String> {
-    let mut wishes = Wishes { seed: None, seconds: None, calls: Call::ALL.to_vec(), bridge: vec![], program: vec![] };
+    let calls_all = Call::ALL.to_vec();
+    let mut wishes =
+        Wishes { seed: None, seconds: None, calls: calls_all, stack_alone: false, bridge: vec![], program: vec![] };
     let mut words = std::env::args().skip(1);
     while let Some(word) = words.next() {
         match word.as_str() {
             "--bridge" => wishes.bridge = words.by_ref().collect(),
             "--program" => wishes.program = words.by_ref().collect(),
+            "--stack" => wishes.stack_alone = true,
             "--seed" => wishes.seed = Some(number(words.next())?),
             "--seconds" => wishes.seconds = Some(number(words.next())?),
             "--calls" => wishes.calls = calls(&words.next().unwrap_or_default())?,
@@ -61,7 +70,7 @@ fn calls(names: &str) -> Result<Vec<Call>, String> {
 
 #[cfg(feature = "linked")]
 fn linked() -> Result<Box<dyn Peer>, String> {
-    Ok(Box::new(peer::Linked))
+    Ok(Box::new(peer::Linked::new()))
 }
 
 #[cfg(not(feature = "linked"))]
@@ -90,10 +99,21 @@ fn start() -> Result<(), String> {
     let seed = wishes.seed.unwrap_or(1);
     println!("calls: {}; seed {seed}", names.join(", "));
     let mut run = Run::new(peer, wishes.calls, seed);
+    if !wishes.stack_alone {
+        compare(&mut run, wishes.seconds, seed)?;
+    }
+    if wishes.seconds.is_none() && !run.measure_stack(seed)? {
+        println!("a call took more stack than include/apfelruder.h states");
+        std::process::exit(3);
+    }
+    Ok(())
+}
+
+fn compare(run: &mut Run, seconds: Option<u64>, seed: u64) -> Result<(), String> {
     let ended = report::caught(|| {
-        match wishes.seconds {
-            None => fixed(&mut run),
-            Some(seconds) => for_a_while(&mut run, Duration::from_secs(seconds)),
+        match seconds {
+            None => fixed(run),
+            Some(seconds) => for_a_while(run, Duration::from_secs(seconds)),
         }
         Ok(())
     });

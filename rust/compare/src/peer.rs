@@ -9,6 +9,14 @@ pub trait Peer {
     /// Makes the call in this memory and gives the four numbers. An error says that the library is gone.
     fn call(&mut self, request: &Request, arena: &mut Arena) -> Result<[u64; 4], String>;
 
+    /// Makes the call in this memory and gives the bytes of stack that it took, with the four numbers.
+    fn measured(&mut self, request: &Request, arena: &mut Arena) -> Result<(usize, [u64; 4]), String>;
+
+    /// The bytes of stack that the call takes, with the four numbers.
+    fn stack(&mut self, request: &Request) -> Result<(usize, [u64; 4]), String> {
+        self.measured(request, &mut Arena::of(request))
+    }
+
     /// Makes the call. An error says that memory around the slices was touched, or that the library is gone.
     fn make(&mut self, request: &Request) -> Result<Reply, String> {
         let mut arena = Arena::of(request);
@@ -36,8 +44,8 @@ impl Bridge {
         self.to.write_all(&(word as u64).to_ne_bytes())
     }
 
-    fn send(&mut self, request: &Request, arena: &Arena) -> io::Result<()> {
-        self.word(request.call as usize)?;
+    fn send(&mut self, number: usize, request: &Request, arena: &Arena) -> io::Result<()> {
+        self.word(number)?;
         for (slice, &start) in request.slices.iter().zip(&arena.starts) {
             self.word(start)?;
             self.word(slice.len())?;
@@ -47,23 +55,44 @@ impl Bridge {
         self.to.flush()
     }
 
+    fn number(&mut self) -> io::Result<u64> {
+        let mut bytes = [0; 8];
+        self.from.read_exact(&mut bytes)?;
+        Ok(u64::from_ne_bytes(bytes))
+    }
+
     fn receive(&mut self, arena: &mut Arena) -> io::Result<[u64; 4]> {
         let mut answer = [0; 4];
         for number in &mut answer {
-            let mut bytes = [0; 8];
-            self.from.read_exact(&mut bytes)?;
-            *number = u64::from_ne_bytes(bytes);
+            *number = self.number()?;
         }
         self.from.read_exact(arena.bytes_mut())?;
         Ok(answer)
     }
+
+    fn ask(&mut self, request: &Request, arena: &mut Arena) -> io::Result<[u64; 4]> {
+        self.send(request.call as usize, request, arena)?;
+        self.receive(arena)
+    }
+
+    /// The bridge measures if the number of the call is raised by 8, and says the bytes first.
+    fn ask_measured(&mut self, request: &Request, arena: &mut Arena) -> io::Result<(usize, [u64; 4])> {
+        self.send(request.call as usize + 8, request, arena)?;
+        Ok((self.number()? as usize, self.receive(arena)?))
+    }
+}
+
+fn gone(error: io::Error) -> String {
+    format!("no answer from the bridge: {error}")
 }
 
 impl Peer for Bridge {
     fn call(&mut self, request: &Request, arena: &mut Arena) -> Result<[u64; 4], String> {
-        let gone = |e: io::Error| format!("no answer from the bridge: {e}");
-        self.send(request, arena).map_err(gone)?;
-        self.receive(arena).map_err(gone)
+        self.ask(request, arena).map_err(gone)
+    }
+
+    fn measured(&mut self, request: &Request, arena: &mut Arena) -> Result<(usize, [u64; 4]), String> {
+        self.ask_measured(request, arena).map_err(gone)
     }
 }
 
@@ -82,16 +111,36 @@ mod linked {
     use super::Peer;
     use crate::arena::Arena;
     use crate::call::{Call, Request};
+    use crate::painted::Painted;
     use apfelruder::raw::Answer;
 
-    pub struct Linked;
+    pub struct Linked {
+        stack: Painted,
+    }
+
+    impl Linked {
+        pub fn new() -> Linked {
+            Linked { stack: Painted::new() }
+        }
+    }
 
     impl Peer for Linked {
         fn call(&mut self, request: &Request, arena: &mut Arena) -> Result<[u64; 4], String> {
             let row = Row { base: arena.words.as_mut_ptr(), starts: &arena.starts, request };
-            let answer = call(request.call, &row).ok_or("this program was built without the call")?;
-            Ok([answer.code, answer.operand, answer.place, answer.count])
+            numbers(call(request.call, &row))
         }
+
+        fn measured(&mut self, request: &Request, arena: &mut Arena) -> Result<(usize, [u64; 4]), String> {
+            let row = Row { base: arena.words.as_mut_ptr(), starts: &arena.starts, request };
+            let mut answer = None;
+            let bytes = self.stack.bytes(&mut || answer = call(request.call, &row))?;
+            Ok((bytes, numbers(answer)?))
+        }
+    }
+
+    fn numbers(answer: Option<Answer>) -> Result<[u64; 4], String> {
+        let answer = answer.ok_or("this program was built without the call")?;
+        Ok([answer.code, answer.operand, answer.place, answer.count])
     }
 
     /// The slices of a call in its memory.

@@ -4,6 +4,7 @@ use crate::call::{independently, Call, Expected, Request};
 use crate::peer::Peer;
 use crate::random::Random;
 use crate::report::{self, Said};
+use crate::stack;
 use std::collections::BTreeSet;
 use std::time::{Duration, Instant};
 
@@ -99,6 +100,11 @@ impl Run {
         if answer[0] != 0 {
             self.refusals.insert((request.call, answer[0], answer[1]));
         }
+    }
+
+    /// Prints the stack that each call takes; whether it is what the header states or less.
+    pub fn measure_stack(&mut self, seed: u64) -> Result<bool, String> {
+        stack::measure(&mut *self.peer, &self.calls, seed)
     }
 
     /// What the independent program makes of a list, for the making of a case. A panic is a difference.

@@ -1,5 +1,6 @@
 //! What is compared, one module for each kind of input.
 pub mod blocks;
+pub mod deep;
 pub mod examples;
 mod expected;
 pub mod kinds;
