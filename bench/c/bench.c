@@ -1,20 +1,25 @@
 /* The benchmark: each call on each input family, by the proved library where it is linked in (-DHAVE_READ, ..), by plain
  * C of the same method, by the published methods, and by FLINT where it is installed. Usage: bench CALL.., where a CALL is
- * split, multiply, same_products, read or write and gives its table; or bench growth SVG. bench/run builds and calls it. */
+ * split, multiply, same_products, read or write, or split_second or same_products_second, and gives its table; or bench
+ * growth SVG. bench/run builds and calls it. */
 #include "families.h"
 #include "measure.h"
 #include "peers.h"
 #include "picture.h"
 
 #include <math.h>
+#include <signal.h>
 #include <stdio.h>
 #include <stdlib.h>
 #include <string.h>
+#include <sys/resource.h>
+#include <sys/wait.h>
+#include <unistd.h>
 
 typedef struct {
     const char *name;
     void (*go)(void *);
-    int slow;           /* in the tables measured on the first input of a family alone */
+    int slow;           /* in the tables measured on the first input of a family alone, in a second set for some seconds at most */
     const char *colour; /* of its line in the picture, NULL if it has none */
 } method;
 
@@ -26,9 +31,7 @@ typedef struct {
 #define SPLIT_ROOM j->words, j->a.t + 64, j->lengths, 64, j->work, 4 * j->a.t
 
 METHOD(split_plain, plain_split(LIST(j->a), SPLIT_ROOM).count)
-METHOD(split_counting, plain_split_counting(LIST(j->a), SPLIT_ROOM).count)
-METHOD(split_comparing, plain_split_comparing(LIST(j->a), SPLIT_ROOM).count)
-METHOD(split_both, plain_split_both(LIST(j->a), SPLIT_ROOM).count)
+METHOD(split_closure, closure_split(LIST(j->a), SPLIT_ROOM).count)
 METHOD(split_algorithm3, algorithm3_split(&j->a))
 METHOD(multiply_plain, plain_multiply(LIST(j->a), LIST(j->b), j->words, LONGEST).count)
 METHOD(multiply_merge, merge_multiply(&j->a, &j->b, j->words))
@@ -70,9 +73,7 @@ static const method split_methods[] = {
     {"ours", split_ours, 0, "#1253a4"},
 #endif
     {"plain C", split_plain, 0, "#2e7d32"},
-    {"plain C, counting first", split_counting, 0, NULL},
-    {"plain C, product compared", split_comparing, 0, NULL},
-    {"plain C, both", split_both, 0, NULL},
+    {"closure by search", split_closure, 0, NULL},
 #ifdef HAVE_SAME_PRODUCTS
     {"papers' rule, pair by pair", split_rule, 1, NULL},
 #endif
@@ -121,9 +122,65 @@ static const method write_methods[] = {
 
 static job current;
 
+/* The lists of the current input must be lists. */
+static void check_lists(const char *input) {
+    const poly *lists[] = {&current.a, &current.d, &current.b, &current.c};
+    for (int k = 0; k < 4; k++)
+        if (lists[k]->t > LONGEST || plain_unordered(LIST(*lists[k])) != lists[k]->t) {
+            fprintf(stderr, "bench: %s is not made of ascending lists\n", input);
+            exit(1);
+        }
+}
+
+/* The parts themselves, not only their number, must be the same by ours, plain C and closure by search. */
+static void check_parts(const char *input) {
+    static apfelruder_answer (*const splits[])(const uint64_t *, size_t, uint64_t *, size_t, uint64_t *, size_t, uint64_t *, size_t) = {
+#ifdef HAVE_SPLIT
+        apfelruder_split,
+#endif
+        plain_split, closure_split};
+    static job parts[sizeof splits / sizeof *splits];
+    for (size_t k = 0; k < sizeof splits / sizeof *splits; k++) {
+        job *j = &parts[k];
+        j->a = current.a;
+        memset(j->words, 0, sizeof j->words), memset(j->lengths, 0, sizeof j->lengths);
+        apfelruder_answer answer = splits[k](LIST(j->a), SPLIT_ROOM);
+        j->result = answer.count;
+        if (answer.code == 0 && j->result == parts[0].result && !memcmp(j->words, parts[0].words, sizeof j->words) &&
+            !memcmp(j->lengths, parts[0].lengths, sizeof j->lengths))
+            continue;
+        fprintf(stderr, "bench: the parts differ on %s\n", input);
+        exit(1);
+    }
+}
+
+static const int SECONDS = 3;
+
+/* The time in a process of its own, which ends after so many seconds on the processor: then the result is -1. */
+static double microseconds_within(void (*go)(void *)) {
+    struct { double microseconds; size_t result; } told = {INFINITY, (size_t)-1};
+    int ends[2], status;
+    pid_t child = pipe(ends) ? -1 : fork();
+    if (child == 0) {
+        setrlimit(RLIMIT_CORE, &(struct rlimit){0, 0});
+        setrlimit(RLIMIT_CPU, &(struct rlimit){(rlim_t)SECONDS, (rlim_t)SECONDS + 1});
+        told.microseconds = median_microseconds(go, &current), told.result = current.result;
+        _exit(write(ends[1], &told, sizeof told) != sizeof told);
+    }
+    if (child > 0) close(ends[1]);
+    int is_told = child > 0 && read(ends[0], &told, sizeof told) == sizeof told;
+    if (child < 0 || waitpid(child, &status, 0) != child || !(is_told || (WIFSIGNALED(status) && WTERMSIG(status) == SIGXCPU))) {
+        fprintf(stderr, "bench: a method failed in its own process\n");
+        exit(1);
+    }
+    close(ends[0]);
+    current.result = told.result;
+    return told.microseconds;
+}
+
 /* Times one method on the current input; 0 if it gave up. Its result must be the first method's. */
-static int timed(const method *m, const method *first, size_t *right, const char *input, double *microseconds) {
-    *microseconds = median_microseconds(m->go, &current);
+static int timed(const method *m, const method *first, size_t *right, const char *input, int hurried, double *microseconds) {
+    *microseconds = hurried && m->slow ? microseconds_within(m->go) : median_microseconds(m->go, &current);
     if (m == first) *right = current.result;
     if (current.result == (size_t)-1) return 0;
     if (current.result == *right) return 1;
@@ -131,29 +188,32 @@ static int timed(const method *m, const method *first, size_t *right, const char
     exit(1);
 }
 
-static void measure_family(const family *f, const method *methods, int columns, double *median) {
+static void measure_family(const family *f, const method *methods, int columns, int hurried, double *median) {
     double times[MOST_COLUMNS][16];
     int measured[MOST_COLUMNS] = {0};
     for (int i = 0; i < f->instances; i++) {
         random_seed((uint64_t)i + 1);
         f->make(&current, f->size);
+        check_lists(f->name);
+        if (methods == split_methods) check_parts(f->name);
         size_t right = 0;
         for (int m = 0; m < columns; m++) {
             if (methods[m].slow && i > 0) continue;
             double *us = &times[m][measured[m]++];
-            if (!timed(&methods[m], methods, &right, f->name, us)) *us = INFINITY;
+            if (!timed(&methods[m], methods, &right, f->name, hurried, us)) *us = INFINITY;
         }
     }
     for (int m = 0; m < columns; m++) median[m] = median_of(times[m], measured[m]);
 }
 
-static void run_families(const char *title, const family *families, int count, const method *methods, int columns) {
+/* Hurried: the slow methods are given up after some seconds. */
+static void run_families(const char *title, const family *families, int count, const method *methods, int columns, int hurried) {
     const char *names[MOST_COLUMNS];
     double us[MOST_COLUMNS];
     for (int m = 0; m < columns; m++) names[m] = methods[m].name;
     table_start(title, names, columns);
     for (int i = 0; i < count; i++) {
-        measure_family(&families[i], methods, columns, us);
+        measure_family(&families[i], methods, columns, hurried, us);
         table_row(families[i].name, current.a.t, us);
     }
     table_end();
@@ -176,7 +236,7 @@ static void measure_size(panel *p, const growing *g, const method *const *method
         for (int m = 0; m < p->count; m++) {
             if (p->lines[m].too_slow) continue;
             double *us = &times[m][measured[m]++];
-            ended[m] += timed(methods[m], methods[0], &right, g->name, us);
+            ended[m] += timed(methods[m], methods[0], &right, g->name, 0, us);
             p->lines[m].too_slow = *us > TOO_SLOW;
         }
     }
@@ -217,11 +277,15 @@ static int run_growth(const char *picture) {
 #define FAMILIES(of) of, of##_count
 
 static int run_call(const char *call) {
-    if (!strcmp(call, "read")) run_families("read", FAMILIES(block_families), METHODS(read_methods));
-    else if (!strcmp(call, "write")) run_families("write", FAMILIES(block_families), METHODS(write_methods));
-    else if (!strcmp(call, "multiply")) run_families("multiply", FAMILIES(multiply_families), METHODS(multiply_methods));
-    else if (!strcmp(call, "same_products")) run_families("same products", FAMILIES(same_families), METHODS(same_methods));
-    else if (!strcmp(call, "split")) run_families("split", FAMILIES(split_families), METHODS(split_methods));
+    if (!strcmp(call, "read")) run_families("read", FAMILIES(block_families), METHODS(read_methods), 0);
+    else if (!strcmp(call, "write")) run_families("write", FAMILIES(block_families), METHODS(write_methods), 0);
+    else if (!strcmp(call, "multiply")) run_families("multiply", FAMILIES(multiply_families), METHODS(multiply_methods), 0);
+    else if (!strcmp(call, "same_products")) run_families("same products", FAMILIES(same_families), METHODS(same_methods), 0);
+    else if (!strcmp(call, "split")) run_families("split", FAMILIES(split_families), METHODS(split_methods), 0);
+    else if (!strcmp(call, "same_products_second"))
+        run_families("same products, second set", FAMILIES(same_second_families), METHODS(same_methods), 1);
+    else if (!strcmp(call, "split_second"))
+        run_families("split, second set", FAMILIES(split_second_families), METHODS(split_methods), 1);
     else {
         fprintf(stderr, "bench: no call is named %s\n", call);
         return 2;

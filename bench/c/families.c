@@ -265,6 +265,49 @@ static void sum_and_chain_flipped(job *j, int size) {
     sum_and_chain(j, size);
     flip_one(&j->a);
 }
+/* Hard quadruples, found by climbing (bench/c/climb_same.c): A = PQ, D = RS, B = PR, C = QS, with P and S on the even variables and Q and R
+ * on the odd ones. */
+static const uint64_t EVEN = 0x5555555555555555, ODD = 0xaaaaaaaaaaaaaaaa;
+static void four_factors(job *j, const poly *p, const poly *q, const poly *r, const poly *s) {
+    product_of(&j->a, p, q), product_of(&j->d, r, s);
+    product_of(&j->b, p, r), product_of(&j->c, q, s);
+}
+static void hard_codes(job *j, int size) {
+    int words = (31 - __builtin_clz((unsigned)size)) / 2;
+    poly p, q, r, s;
+    code(&p, EVEN, words), code(&q, ODD, words), code(&r, ODD, words), code(&s, EVEN, words);
+    four_factors(j, &p, &q, &r, &s);
+}
+static void hard_graphs(job *j, int size) {
+    size_t n = (size_t)sqrt(size);
+    poly p, q, r, s;
+    graph(&p, EVEN & 0xffffffffff, n), graph(&q, ODD & 0xffffffffff, n), graph(&r, ODD & 0xffffffffff, n), graph(&s, EVEN & 0xffffffffff, n);
+    mirror_on(&p, EVEN), mirror_on(&s, EVEN);
+    four_factors(j, &p, &q, &r, &s);
+}
+static void hard_sums(job *j, int size) {
+    size_t n = (size_t)sqrt(size);
+    poly p, q, r, s;
+    one_and_sum_on(&p, EVEN, n), chain_on(&q, ODD, n), one_and_sum_on(&r, ODD, n), chain_on(&s, EVEN, n);
+    mirror_on(&p, EVEN), mirror_on(&q, ODD), mirror_on(&r, ODD), mirror_on(&s, EVEN);
+    four_factors(j, &p, &q, &r, &s);
+}
+static void hard_intervals(job *j, int size) {
+    size_t n = (size_t)sqrt(size);
+    poly p, q, r, s;
+    interval(&p, EVEN, 1, n), interval(&q, ODD, 1, n), interval(&r, ODD, 2, n), interval(&s, EVEN, 2, n);
+    four_factors(j, &p, &q, &r, &s);
+}
+/* P a sum times a chain, Q a sum, R a chain, S two chains. */
+static void hard_pieces(job *j, int size) {
+    size_t n = (size_t)sqrt(size), few = n / 8;
+    uint64_t low = EVEN & 0xffff, high = EVEN & ~low;
+    poly p, q, r, s, some, more;
+    one_and_sum_on(&some, high, n / few), chain_on(&more, low, few), product_of(&p, &some, &more);
+    one_and_sum_on(&q, ODD, n), chain_on(&r, ODD, n);
+    chain_on(&some, high, n / few), chain_on(&more, low, few), product_of(&s, &some, &more);
+    four_factors(j, &p, &q, &r, &s);
+}
 static void same_chains(job *j, int size) {
     int n = (int)sqrt(size);
     chains(&j->a, n);
@@ -298,6 +341,11 @@ const family same_families[] = {
     {"equal: sum, chain and two random", sum_and_chain, 1024, 5},
     {"equal: the same mirrored", sum_and_chain_mirrored, 1024, 5},
     {"unequal: the same with a bit turned", sum_and_chain_flipped, 1024, 5},
+    {"equal: hard, four linear codes", hard_codes, 1024, 5},
+    {"equal: hard, four graphs", hard_graphs, 1024, 5},
+    {"equal: hard, sums and chains mirrored", hard_sums, 1024, 1},
+    {"equal: hard, four intervals", hard_intervals, 1024, 1},
+    {"equal: hard, products of sums and chains", hard_pieces, 1024, 1},
 };
 const int same_families_count = (int)(sizeof same_families / sizeof *same_families);
 
@@ -335,5 +383,9 @@ const growing growing_inputs[] = {
     {"same products: staircases, none alike", unlike_stairs, 0, 0},
     {"same products: the same mirrored", unlike_stairs_mirrored, 0, 0},
     {"same products: sum, chain and two random", sum_and_chain, 0, 1},
+    {"same products: hard, four linear codes", hard_codes, 0, 0},
+    {"same products: hard, four graphs", hard_graphs, 0, 0},
+    {"same products: hard, sums and chains mirrored", hard_sums, 0, 0},
+    {"same products: hard, products of sums and chains", hard_pieces, 0, 0},
 };
 const int growing_inputs_count = (int)(sizeof growing_inputs / sizeof *growing_inputs);

@@ -31,10 +31,14 @@ typedef struct {
 
 extern const family split_families[];
 extern const int split_families_count;
+extern const family split_second_families[];
+extern const int split_second_families_count;
 extern const family multiply_families[];
 extern const int multiply_families_count;
 extern const family same_families[];
 extern const int same_families_count;
+extern const family same_second_families[];
+extern const int same_second_families_count;
 extern const family block_families[];
 extern const int block_families_count;
 extern const growing growing_inputs[];

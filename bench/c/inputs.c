@@ -118,10 +118,53 @@ void chains(poly *f, int n) {
     product_of(f, &even, &odd);
 }
 
-void mirror(poly *f, int wide) {
-    uint64_t all = wide < 64 ? ((uint64_t)1 << wide) - 1 : UINT64_MAX;
-    for (size_t i = 0; i < f->t; i++) f->terms[i] ^= all;
+void mirror(poly *f, int wide) { mirror_on(f, wide < 64 ? ((uint64_t)1 << wide) - 1 : UINT64_MAX); }
+
+void mirror_on(poly *f, uint64_t vars) {
+    for (size_t i = 0; i < f->t; i++) f->terms[i] ^= vars;
     ascending(f);
+}
+
+/* The lowest variable of a set that is not empty, taken out of it. */
+static uint64_t take_lowest(uint64_t *vars) {
+    uint64_t x = *vars & -*vars;
+    *vars ^= x;
+    return x;
+}
+
+void interval(poly *f, uint64_t vars, uint64_t from, size_t t) {
+    for (f->t = 0; f->t < t; f->t++) {
+        uint64_t number = from + f->t, rest = vars, term = 0;
+        for (; number && rest; number >>= 1) {
+            uint64_t x = take_lowest(&rest);
+            if (number & 1) term |= x;
+        }
+        f->terms[f->t] = term;
+    }
+}
+
+void chain_on(poly *f, uint64_t vars, size_t t) {
+    f->terms[0] = 0;
+    for (f->t = 1; f->t < t && vars; f->t++) f->terms[f->t] = f->terms[f->t - 1] | take_lowest(&vars);
+}
+
+void one_and_sum_on(poly *f, uint64_t vars, size_t t) {
+    f->terms[0] = 0;
+    for (f->t = 1; f->t < t && vars; f->t++) f->terms[f->t] = take_lowest(&vars);
+}
+
+void graph(poly *f, uint64_t vars, size_t t) {
+    for (f->t = 0; f->t < t; ascending(f)) f->terms[f->t++] = random_variables(vars, 2);
+}
+
+void code(poly *f, uint64_t vars, int words) {
+    f->terms[0] = random_word() & vars, f->t = 1;
+    while (words > 0) {
+        uint64_t word = random_word() & vars, before = f->t;
+        for (size_t i = 0; i < before; i++) f->terms[f->t++] = f->terms[i] ^ word;
+        ascending(f);
+        if (f->t == 2 * before) words--;
+    }
 }
 
 void sum_of_all(poly *f, int wide) {

@@ -41,6 +41,17 @@ void chains(poly *f, int n);
 void mirror(poly *f, int wide);
 /* 1 + x0 + x1 + .. of so many variables */
 void sum_of_all(poly *f, int wide);
+/* t numbers from the given one on, their bits on the variables of the set, lowest on lowest */
+void interval(poly *f, uint64_t vars, uint64_t from, size_t t);
+/* 1, x, x y, .. on the variables of the set, at most t terms; 1 + x + y + .. on them */
+void chain_on(poly *f, uint64_t vars, size_t t);
+void one_and_sum_on(poly *f, uint64_t vars, size_t t);
+/* t random products of two different variables of the set: the edges of a graph */
+void graph(poly *f, uint64_t vars, size_t t);
+/* all sums of so many random words over the variables, added to a random word: a coset of a linear code */
+void code(poly *f, uint64_t vars, int words);
+/* every term complemented within the variables */
+void mirror_on(poly *f, uint64_t vars);
 /* the terms of f that hold the variable, with it cleared; those that do not hold it */
 void derivative(poly *out, const poly *f, int x);
 void at_zero(poly *out, const poly *f, int x);

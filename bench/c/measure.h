@@ -9,7 +9,7 @@
 double median_microseconds(void (*go)(void *), void *with);
 double median_of(double *values, int count);
 
-enum { MOST_COLUMNS = 8, MOST_PANELS = 16, SIZES = 5, SMALLEST = 64 };
+enum { MOST_COLUMNS = 8, MOST_PANELS = 24, SIZES = 5, SMALLEST = 64 };
 
 /* A markdown table: a row for each input, a column of microseconds for each method; the first column is what the
  * others are held to. INFINITY is a time that was given up. Behind the table stand the slowest input of the first

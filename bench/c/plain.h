@@ -14,19 +14,12 @@ apfelruder_answer plain_same_products(const uint64_t *a, size_t a_len, const uin
 apfelruder_answer plain_read(const uint8_t *bytes, size_t bytes_len, uint64_t *out, size_t out_len);
 apfelruder_answer plain_write(const uint64_t *terms, size_t t, uint8_t *out, size_t out_len);
 
-/* The same split with a first guess by counting, with the product compared first, and with the product compared and
- * counting where two rounds were not enough (bench/c/plain_split.c). */
-apfelruder_answer plain_split_counting(const uint64_t *terms, size_t t, uint64_t *part_terms, size_t part_terms_len,
-                                       uint64_t *part_lengths, size_t part_lengths_len, uint64_t *work,
-                                       size_t work_len);
-apfelruder_answer plain_split_comparing(const uint64_t *terms, size_t t, uint64_t *part_terms, size_t part_terms_len,
-                                        uint64_t *part_lengths, size_t part_lengths_len, uint64_t *work,
-                                        size_t work_len);
-apfelruder_answer plain_split_both(const uint64_t *terms, size_t t, uint64_t *part_terms, size_t part_terms_len,
-                                   uint64_t *part_lengths, size_t part_lengths_len, uint64_t *work, size_t work_len);
+/* Split as it was before: closure under mixing, asked for by binary search (bench/c/plain_closure.c). */
+apfelruder_answer closure_split(const uint64_t *terms, size_t t, uint64_t *part_terms, size_t part_terms_len,
+                                uint64_t *part_lengths, size_t part_lengths_len, uint64_t *work, size_t work_len);
 
 /* The number of questions that the last plain_same_products asked, and of membership searches and rounds that the
- * last plain_split made; counted only if compiled with -DPLAIN_COUNT. */
+ * last closure_split made; counted only if compiled with -DPLAIN_COUNT. */
 extern unsigned long plain_questions, plain_searches, plain_rounds;
 #ifdef PLAIN_COUNT
 #define PLAIN_ONE_MORE(counter) ((counter)++)

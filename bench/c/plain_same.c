@@ -52,19 +52,18 @@ static void exchange(ratio *p, ratio *q) {
 
 /* Three ratios: the smallest against the other two, the smaller of them first. */
 static int three_alike(ratio p, ratio q, ratio r, uint64_t mask) {
-    if (size(q) < size(p)) exchange(&p, &q);
-    if (size(r) < size(p)) exchange(&p, &r);
+    if (size(q) <= size(p) && size(q) <= size(r)) exchange(&p, &q);
+    else if (size(r) <= size(p)) exchange(&p, &r), exchange(&q, &r);
     if (size(r) < size(q)) exchange(&q, &r);
     return alike(p, q, mask) && alike(p, r, mask);
 }
 
-/* Of p, which is known to be like also: NONE if it is unlike the smaller of q and r, ALL if it is like both, and SOME if it
- * is like the smaller one alone. The smallest ratio is the one that is asked about. */
+/* Of p, which is known to be like also: NONE if it is unlike q, ALL if it is like q and r, and SOME if it is like q alone. The
+ * smaller of p and also is the one that is asked about. */
 enum likeness { NONE, SOME, ALL };
 
 static enum likeness like_both(ratio p, ratio also, ratio q, ratio r, uint64_t mask) {
     if (size(also) < size(p)) p = also;
-    if (size(r) < size(q)) exchange(&q, &r);
     if (!alike(p, q, mask)) return NONE;
     return alike(p, r, mask) ? ALL : SOME;
 }
@@ -84,31 +83,39 @@ static int all_full(halves a, halves d, halves b, halves c, uint64_t mask) {
     return like_both(ac1, bd1, ac0, bd0, mask) == ALL;
 }
 
-static int full(halves h) { return h.low.n && h.high.n; }
+/* How the variable stands in a list: it divides it, does not occur, or neither. */
+static int shape(halves h) { return !h.low.n ? 1 : !h.high.n ? 0 : 2; }
 static run only(halves h) { return h.low.n ? h.low : h.high; }
 
-/* a and b have both halves at z, d and c one. */
-static int one_full(halves a, halves d, halves b, halves c, uint64_t mask) {
-    ratio high = {a.high, b.high}, low = {a.low, b.low}, rest = {only(c), only(d)};
-    return three_alike(high, low, rest, mask);
+/* a and b have one shape, d and c another or the same. */
+static int opposed(halves a, halves d, halves b, halves c, uint64_t mask) {
+    if (shape(a) != 2) {
+        ratio rest = {only(a), only(b)}, high = {c.high, d.high}, low = {c.low, d.low};
+        return three_alike(rest, high, low, mask);
+    }
+    if (shape(d) != 2) {
+        ratio rest = {only(d), only(c)}, high = {b.high, a.high}, low = {b.low, a.low};
+        return three_alike(rest, high, low, mask);
+    }
+    return all_full(a, d, b, c, mask);
 }
 
 static int cut_at(run ra, run rd, run rb, run rc, uint64_t z) {
     halves a = cut(ra, z), d = cut(rd, z), b = cut(rb, z), c = cut(rc, z);
-    uint64_t mask = z - 1;
-    if (full(a) + full(d) != full(b) + full(c)) return 0;
-    if (!a.low.n + !d.low.n != !b.low.n + !c.low.n) return 0;
-    if (full(a) && full(d)) return all_full(a, d, b, c, mask);
-    if (full(a)) return full(b) ? one_full(a, d, b, c, mask) : one_full(a, d, c, b, mask);
-    return full(b) ? one_full(d, a, b, c, mask) : one_full(d, a, c, b, mask);
+    if (shape(a) == shape(b) && shape(d) == shape(c)) return opposed(a, d, b, c, z - 1);
+    if (shape(a) == shape(c) && shape(d) == shape(b)) return opposed(a, d, c, b, z - 1);
+    return 0;
 }
 
-/* Both ends: the product's lowest term is that of the lowest ones, and so for the highest. */
-static int ends_fit(run a, run d, run b, run c, uint64_t mask) {
-    uint64_t p = a.p[0], q = d.p[0], r = b.p[0], s = c.p[0];
-    if (((p ^ q ^ r ^ s) | ((p & q) ^ (r & s))) & mask) return 0;
-    p = a.p[a.n - 1], q = d.p[d.n - 1], r = b.p[b.n - 1], s = c.p[c.n - 1];
-    return !(((p ^ q ^ r ^ s) | ((p & q) ^ (r & s))) & mask);
+/* The variables that do not stand equally often in p times q and in r times s. */
+static uint64_t uneven(uint64_t p, uint64_t q, uint64_t r, uint64_t s) { return (p ^ q ^ r ^ s) | ((p & q) ^ (r & s)); }
+
+/* Whether u times the one list is v times the other, term by term. */
+static int matched(uint64_t u, uint64_t v, run d, run c, uint64_t mask) {
+    if (d.n != c.n) return 0;
+    for (size_t i = 0; i < d.n; i++)
+        if (uneven(u, d.p[i], v, c.p[i]) & mask) return 0;
+    return 1;
 }
 
 static uint64_t spread(run a) { return a.p[0] ^ a.p[a.n - 1]; }
@@ -116,13 +123,17 @@ static uint64_t spread(run a) { return a.p[0] ^ a.p[a.n - 1]; }
 static int same(run a, run d, run b, run c, uint64_t mask) {
     PLAIN_ONE_MORE(plain_questions);
     if (!a.n || !d.n || !b.n || !c.n) return (!a.n || !d.n) == (!b.n || !c.n);
-    if (a.n * d.n != b.n * c.n) return 0;
-    if (!ends_fit(a, d, b, c, mask)) return 0;
-    if (equal(a, b, mask)) return equal(d, c, mask);
-    if (equal(a, c, mask)) return equal(d, b, mask);
+    if (a.n == 1 && b.n == 1) return matched(a.p[0], b.p[0], d, c, mask);
+    if (a.n == 1 && c.n == 1) return matched(a.p[0], c.p[0], d, b, mask);
+    if (d.n == 1 && b.n == 1) return matched(d.p[0], b.p[0], a, c, mask);
+    if (d.n == 1 && c.n == 1) return matched(d.p[0], c.p[0], a, b, mask);
     uint64_t differ = (spread(a) | spread(d) | spread(b) | spread(c)) & mask;
+    uint64_t z = differ ? (uint64_t)1 << 63 >> __builtin_clzll(differ) : 0, left = differ ? z | (z - 1) : 0;
+    if (uneven(a.p[0], d.p[0], b.p[0], c.p[0]) & mask & ~left) return 0; /* in the constant variables on top */
     if (!differ) return 1;
-    return cut_at(a, d, b, c, (uint64_t)1 << 63 >> __builtin_clzll(differ));
+    if (equal(a, b, left)) return equal(d, c, left);
+    if (equal(a, c, left)) return equal(d, b, left);
+    return cut_at(a, d, b, c, z);
 }
 
 apfelruder_answer plain_same_products(const uint64_t *a, size_t an, const uint64_t *d, size_t dn, const uint64_t *b,
