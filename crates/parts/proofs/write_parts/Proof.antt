@@ -32,11 +32,12 @@ loop-holds c =
 
 take-next-requires : tie.Need-take-next-requires Inv-loop μ-loop
 take-next-requires c κs =
-    let here = c .before .before .before .loop in
-    let start = c .before .before .before .before .before .before .before .before .before .before in
+    let turn = c .before .before in
+    let here = turn .before .loop in
+    let start = turn .before .before .before .before .before .before .before .before in
     let a = start .args in
     let s = here .inv .0 in
-    let more = c .before .before .loop-test .taken in (
+    let more = turn .loop-test .taken in (
       ready (held (a .held) (take (a .t) (a .work .now))) (a .part-terms .now) (a .part-lengths .now) (a .t) 64 (here .part-terms) (here .part-lengths)
           (here .work) (here .n) (here .at) (here .k) (here .left) (here .all) s more (start .pre .5) (start .pre .6),
       s .free,
