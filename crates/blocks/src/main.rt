@@ -26,89 +26,101 @@ fn write_into(terms: &[u64], out: &mut [u8]) {
 }
 
 // Read, with room for six terms.
-fn read(block: &[u8]) {
+fn read_lent(block: &[u8]) {
     let mut out = [9u64; 6];
     read_into(block, &mut out);
 }
 
-// Read, with room for one term.
-fn read_one(block: &[u8]) {
-    let mut out = [9u64; 1];
-    read_into(block, &mut out);
+// The same of the first n bytes. Blocks and lists are handed over as they are and not lent, which costs the check far less.
+fn read(n: usize, bytes: [u8; 6]) {
+    if n <= 6 {
+        read_lent(&bytes[0..n]);
+    }
 }
 
-// Write, with room for twelve bytes.
-fn write(terms: &[u64]) {
+// Read, with room for one term.
+fn read_one(n: usize, bytes: [u8; 6]) {
+    let mut out = [9u64; 1];
+    if n <= 6 {
+        read_into(&bytes[0..n], &mut out);
+    }
+}
+
+// Write of the first t words, with room for twelve bytes.
+fn write(t: usize, words: [u64; 4]) {
     let mut out = [238u8; 12];
-    write_into(terms, &mut out);
+    if t <= 4 {
+        write_into(&words[0..t], &mut out);
+    }
 }
 
 // Write, with room for four bytes.
-fn write_four(terms: &[u64]) {
+fn write_four(t: usize, words: [u64; 4]) {
     let mut out = [238u8; 4];
-    write_into(terms, &mut out);
+    if t <= 4 {
+        write_into(&words[0..t], &mut out);
+    }
 }
 
 // The blocks of RULES 7.4 and 6.4.
 fn of_the_rules() {
-    read(b"\x10\x00\x00");
-    read(b"\x10\x00\x01");
-    read(b"\x10\x60\x04\x2a\xe0");
-    read(b"\x10\x60\x04\x2a\xe1");
-    read(b"\x10\x60\x04\x2a");
-    read(b"\x10\x60\x04\x2a\xe0\x00");
-    read(b"\x20\x00\x01");
-    read(b"\x10\x00\x02");
-    read(b"\x10\x20\x01\x00");
+    read(3, [0x10, 0x00, 0x00, 0, 0, 0]);
+    read(3, [0x10, 0x00, 0x01, 0, 0, 0]);
+    read(5, [0x10, 0x60, 0x04, 0x2a, 0xe0, 0]);
+    read(5, [0x10, 0x60, 0x04, 0x2a, 0xe1, 0]);
+    read(4, [0x10, 0x60, 0x04, 0x2a, 0, 0]);
+    read(6, [0x10, 0x60, 0x04, 0x2a, 0xe0, 0x00]);
+    read(3, [0x20, 0x00, 0x01, 0, 0, 0]);
+    read(3, [0x10, 0x00, 0x02, 0, 0, 0]);
+    read(4, [0x10, 0x20, 0x01, 0x00, 0, 0]);
 }
 
 // The order of the checks: under 3 bytes before the form, the header's checks before the length, room before what the terms say.
 fn order_of_checks() {
-    read(b"");
-    read(b"\x20");
-    read(b"\x20\x00");
-    read(b"\x2f\xff\xff");
-    read(b"\x1f\xff\xff");
-    read(b"\x18\x20\x00");
-    read(b"\x10\x24\x01");
-    read(b"\x10\x40\x04");
-    read_one(b"\x10\x00\x02");
-    read_one(b"\x10\x60\x04\x2a\xe1");
-    read_one(b"\x10\x00\x00");
-    read(b"\x10\x60\x02\x20");
-    read(b"\x10\x60\x02\x09");
-    read(b"\x10\x60\x02\x25");
+    read(0, [0, 0, 0, 0, 0, 0]);
+    read(1, [0x20, 0, 0, 0, 0, 0]);
+    read(2, [0x20, 0x00, 0, 0, 0, 0]);
+    read(3, [0x2f, 0xff, 0xff, 0, 0, 0]);
+    read(3, [0x1f, 0xff, 0xff, 0, 0, 0]);
+    read(3, [0x18, 0x20, 0x00, 0, 0, 0]);
+    read(3, [0x10, 0x24, 0x01, 0, 0, 0]);
+    read(3, [0x10, 0x40, 0x04, 0, 0, 0]);
+    read_one(3, [0x10, 0x00, 0x02, 0, 0, 0]);
+    read_one(5, [0x10, 0x60, 0x04, 0x2a, 0xe1, 0]);
+    read_one(3, [0x10, 0x00, 0x00, 0, 0, 0]);
+    read(4, [0x10, 0x60, 0x02, 0x20, 0, 0]);
+    read(4, [0x10, 0x60, 0x02, 0x09, 0, 0]);
+    read(4, [0x10, 0x60, 0x02, 0x25, 0, 0]);
 }
 
 // Zero with a larger n, terms without variables, bytes behind the block, the highest variable, the first of several in disorder.
 fn corners() {
-    read(b"\x10\x20\x00");
-    read(b"\x18\x00\x00");
-    read(b"\x10\x00\x03");
-    read(b"\x10\x00\x00\x00");
-    read(b"\x10\x00\x01\x00");
-    read(b"\x18\x00\x01\x80\x00\x00\x00\x00\x00\x00\x00");
-    read(b"\x18\x00\x01\x7f\xff\xff\xff\xff\xff\xff\xff");
-    read(b"\x10\x40\x02\x90");
-    read(b"\x10\x40\x02\xf0");
-    read(b"\x10\x40\x03\x68");
-    read(b"\x10\x20\x02\x40");
+    read(3, [0x10, 0x20, 0x00, 0, 0, 0]);
+    read(3, [0x18, 0x00, 0x00, 0, 0, 0]);
+    read(3, [0x10, 0x00, 0x03, 0, 0, 0]);
+    read(4, [0x10, 0x00, 0x00, 0x00, 0, 0]);
+    read(4, [0x10, 0x00, 0x01, 0x00, 0, 0]);
+    read_lent(b"\x18\x00\x01\x80\x00\x00\x00\x00\x00\x00\x00");
+    read_lent(b"\x18\x00\x01\x7f\xff\xff\xff\xff\xff\xff\xff");
+    read(4, [0x10, 0x40, 0x02, 0x90, 0, 0]);
+    read(4, [0x10, 0x40, 0x02, 0xf0, 0, 0]);
+    read(4, [0x10, 0x40, 0x03, 0x68, 0, 0]);
+    read(4, [0x10, 0x20, 0x02, 0x40, 0, 0]);
 }
 
 // The lists of the same blocks, and those that write refuses.
 fn lists() {
-    let none = [0u64; 1];
-    write(&none[0..0]);
-    write(&[0; 1]);
-    write(&[1, 2, 5, 6]);
-    write(&[0, 1]);
-    write(&[9223372036854775808]);
-    write(&[1, 1]);
-    write(&[2, 1]);
-    write(&[1, 2, 2]);
-    write_four(&[1, 2, 5, 6]);
-    write_four(&[64, 1]);
-    write_four(&[0, 1]);
+    write(0, [0, 0, 0, 0]);
+    write(1, [0, 0, 0, 0]);
+    write(4, [1, 2, 5, 6]);
+    write(2, [0, 1, 0, 0]);
+    write(1, [9223372036854775808, 0, 0, 0]);
+    write(2, [1, 1, 0, 0]);
+    write(2, [2, 1, 0, 0]);
+    write(3, [1, 2, 2, 0]);
+    write_four(4, [1, 2, 5, 6]);
+    write_four(2, [64, 1, 0, 0]);
+    write_four(2, [0, 1, 0, 0]);
 }
 
 // Reads the first `size` bytes.
