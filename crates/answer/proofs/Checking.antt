@@ -73,6 +73,19 @@ said-so r t e h = sym e ∙ h
 pub said-not : (r t : Bool) → r ≡ t → r ≡ false → t ≡ false
 said-not r t e h = sym e ∙ h
 
+-- two numbers that calls have found, and a set that a call has found empty or not
+pub counted-below : (x y m n : ℕ) → x ≡ m → y ≡ n → x < y → ltb m n ≡ true
+counted-below x y m n ex ey h = rw (sym ex, sym ey) (lt-ltb x y h)
+
+pub counted-not-below : (x y m n : ℕ) → x ≡ m → y ≡ n → y ≤ x → ltb m n ≡ false
+counted-not-below x y m n ex ey h = rw (sym ex, sym ey) (le-ltb x y h)
+
+pub something-held : (r : Bool) (set m : ℕ) → r ≡ eqb set 0 → set ≡ m → not r ≡ true → not (eqb m 0) ≡ true
+something-held r set m er em h = rw (sym em, sym er) h
+
+pub nothing-held : (r : Bool) (set m : ℕ) → r ≡ eqb set 0 → set ≡ m → not r ≡ false → not (eqb m 0) ≡ false
+nothing-held r set m er em h = rw (sym em, sym er) h
+
 -- and what a passed test tells
 pub equal-if-passed : (m n : ℕ) → not (eqb m n) ≡ false → m ≡ n
 equal-if-passed m n e = eqb-true m n (not-false (eqb m n) e)

@@ -14,7 +14,7 @@ use Rattle.answer.proofs.Ends.{passed-accepts, accepted-passed}
 use Rattle.polys.specs.List.{Asc}
 use Rattle.terms.specs.Width.{widthOf}
 use Rattle.digits.proofs.Bits.{length-fields}
-use Rattle.block.specs.Format.{size, nIn, tIn, termsIn, spareIn, blockOf}
+use Rattle.packing.specs.Format.{size, nIn, tIn, termsIn, spareIn, blockOf}
 use Rattle.block.specs.Calls.{readChecks, ReadEnds, writeChecks, WriteEnds}
 use Rattle.block.proofs.Fields.{Holds}
 use Rattle.block.proofs.Reading.{Readable, readable}
@@ -88,7 +88,7 @@ readable-if-holds maxTerms maxVars block terms room few narrow fits ascend h =
     let same = said-if-holds block terms (widthOf terms) h in
     record {
       form = h .form;
-      narrow = omega (arith, h .vars);
+      in-range = omega (arith, h .vars);
       few = omega (arith, h .count);
       whole = h .long ∙ ap₂ size (sym (h .vars)) (sym (h .count));
       fits = omega (arith, h .count);

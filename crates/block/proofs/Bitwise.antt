@@ -13,10 +13,10 @@ use Rattle.digits.specs.Bitwise.{bitsOf, row}
 use Rattle.digits.proofs.Number.{num-below}
 use Rattle.digits.proofs.Bits.{length-fields}
 use Rattle.digits.proofs.Bitwise.{bits-joined, row-of-number, bits-of-zero}
-use Rattle.block.specs.Format.{size, spare, nIn, tIn, behind, headerOf, bodyOf, blockOf}
+use Rattle.packing.specs.Format.{size, spare, nIn, tIn, behind, headerOf, bodyOf, blockOf}
 use Rattle.block.specs.Bitwise.{blockBits}
 use Rattle.block.specs.Calls.{ReadEnds}
-use Rattle.block.proofs.Variables.{terms-fit}
+use Rattle.packing.proofs.Variables.{terms-fit}
 use Rattle.block.proofs.Fields.{block-bytes, length-block, number-of-block}
 use Rattle.block.proofs.Reading.{Readable}
 use Rattle.block.proofs.Accepted.{said, read-accepts, terms-read}
@@ -49,7 +49,7 @@ pub accepted-bit-by-bit : (maxTerms maxVars : ℕ) (block old : List ℕ) (got :
 accepted-bit-by-bit maxTerms maxVars block old got new few narrow bytes e z =
     ap (row 8) (accepted-block maxTerms maxVars block old got new bytes e z)
     ∙ block-bit-by-bit (take (got .count) new)
-    (subst (λ (l : List ℕ). widthOf l < 2 ^ 7) (sym terms) (omega (arith, ok .own, ok .narrow)))
+    (subst (λ (l : List ℕ). widthOf l < 2 ^ 7) (sym terms) (omega (arith, ok .own, ok .in-range)))
     (subst (λ (l : List ℕ). length l < 2 ^ 13) (sym terms) (omega (arith, length-fields block 24 (nIn block) (tIn block), ok .few)))
   where
     ok : Readable maxTerms maxVars block (length old)

@@ -7,9 +7,9 @@ use Rattle.answer.specs.Table.{accepted, refused}
 use Rattle.answer.specs.Ends.{Ends}
 use Rattle.polys.specs.Poly.{vars}
 use Rattle.terms.specs.Order.{unordered, rising}
-use Rattle.terms.specs.Width.{width, halvings}
+use Rattle.masks.specs.Width.{width, halvings}
 use Rattle.digits.specs.Number.{num, digits, bits, fields}
-use Rattle.block.specs.Format.{blockOf}
+use Rattle.packing.specs.Format.{blockOf}
 use Rattle.block.specs.Calls.{ReadEnds}
 
 -- the blocks of zero, of one and of `{1,2,5,6}`

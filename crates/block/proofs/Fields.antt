@@ -13,8 +13,8 @@ use Rattle.digits.specs.Number.{num, digits, bits, Below}
 use Rattle.digits.proofs.Number.{num-below, num-digits, num-injective, digits-num, digits-below, length-digits}
 use Rattle.digits.proofs.Bits.{bits-add, bits-first, bits-second, bits-whole, num-fields, length-fields, fields-below}
 use Rattle.digits.proofs.Writing.{joined-below}
-use Rattle.block.specs.Format.{size, spare, formIn, nIn, tIn, termsIn, spareIn, behind, headerOf, bodyOf, numberOf, sizeOf, blockOf}
-use Rattle.block.proofs.Variables.{terms-fit}
+use Rattle.packing.specs.Format.{size, spare, formIn, nIn, tIn, termsIn, spareIn, behind, headerOf, bodyOf, numberOf, sizeOf, blockOf}
+use Rattle.packing.proofs.Variables.{terms-fit}
 
 -- all bits of a block: 24 of the header, those of the terms, those to the end of the byte
 all-bits : (n t : ℕ) → 8 * size n t ≡ 24 + n * t + spare n t

@@ -1,7 +1,4 @@
-pub mod Variables
 pub mod Fields
-pub mod Terms
-pub mod Packing
 pub mod Reading
 pub mod Writing
 pub mod Accepted

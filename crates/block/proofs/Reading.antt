@@ -3,8 +3,8 @@
 use mathlib.Core.Path.{_≡_, sym, ap, _∙_, subst}
 use mathlib.Core.Bool.{false}
 use mathlib.Core.List.{List, _++_}
-use Prim.Native.Nat.{ℕ, _*_, _≤_, _<_, _^_}
-use native.Mathlib.Nat.{mul-le-mul, le-antisymm, le-of-eq}
+use Prim.Native.Nat.{ℕ, _≤_}
+use native.Mathlib.Nat.{le-antisymm, le-of-eq}
 use native.Mathlib.Omega.{arith}
 use borrow.Author.Tests.{ltb-false, le-ltb}
 use lib.Dec.{ltb}
@@ -18,15 +18,11 @@ use Rattle.polys.specs.Poly.{vars}
 use Rattle.terms.specs.Order.{unordered}
 use Rattle.terms.specs.Width.{widthOf}
 use Rattle.terms.proofs.Order.{ascends-if-passed, passed-if-ascends}
-use Rattle.terms.proofs.Width.{width-le}
+use Rattle.masks.proofs.Width.{width-le}
 use Rattle.digits.proofs.Bits.{length-fields, fields-below}
-use Rattle.block.specs.Format.{size, formIn, nIn, tIn, termsIn, spareIn}
+use Rattle.packing.specs.Format.{size, formIn, nIn, tIn, termsIn, spareIn}
 use Rattle.block.specs.Calls.{bodyChecks, readChecks}
 use Rattle.terms.proofs.Vars.{vars-below}
-
--- the terms of a block whose header is read fit well below a word
-pub few-bits : (n t : ℕ) → n ≤ 64 → t < 2 ^ 13 → n * t ≤ 524288
-few-bits n t h k = mul-le-mul {n₁ = n} {m₁ = t} {n₂ = 64} {m₂ = 8192} h (omega arith)
 
 -- a block's terms pass the order check exactly if they ascend
 pub terms-ascend : (block : List ℕ) (n t : ℕ) → ltb (unordered (termsIn block n t)) t ≡ false → Asc (termsIn block n t)
@@ -44,7 +40,7 @@ body-checked block n t room answer e f c = subst (λ (k : ℕ). Checked (bodyChe
 -- a block that read accepts
 pub record Readable (maxTerms maxVars : ℕ) (block : List ℕ) (room : ℕ) : Type 0 where
   pub form : formIn block ≡ 1
-  pub narrow : nIn block ≤ maxVars
+  pub in-range : nIn block ≤ maxVars
   pub few : tIn block ≤ maxTerms
   pub whole : length block ≡ size (nIn block) (tIn block)
   pub fits : tIn block ≤ room
@@ -58,7 +54,7 @@ unfolding Passed
 readable maxTerms maxVars block room p =
     record {
       form = search equal-if-passed;
-      narrow = search ltb-false;
+      in-range = search ltb-false;
       few = search ltb-false;
       whole = le-antisymm (search ltb-false) (search ltb-false);
       fits = search ltb-false;
@@ -83,7 +79,7 @@ passed-if-readable maxTerms maxVars block room r =
       (
         passed-if-equal (formIn block) 1 (r .form),
         (
-          le-ltb maxVars n (r .narrow),
+          le-ltb maxVars n (r .in-range),
           (
             le-ltb maxTerms t (r .few),
             (
@@ -114,3 +110,8 @@ terms-written block old new n t e f w =
     subst (λ (k : ℕ). Writes (termsIn block k (tIn block)) old t new) e
     (subst (λ (k : ℕ). Writes (termsIn block n k) old t new) f
     (sym (length-fields block 24 n t), w ∙ ap (λ (k : ℕ). termsIn block n t ++ drop k old) (sym (length-fields block 24 n t))))
+
+-- the room that was counted is the room that was lent
+pub room-counted : (maxTerms maxVars : ℕ) (block : List ℕ) (found room : ℕ) (answer : Answer) → found ≡ room
+    → Checked (readChecks maxTerms maxVars block found) answer → Checked (readChecks maxTerms maxVars block room) answer
+room-counted maxTerms maxVars block found room answer e = subst (λ (n : ℕ). Checked (readChecks maxTerms maxVars block n) answer) e

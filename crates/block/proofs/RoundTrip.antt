@@ -12,10 +12,10 @@ use Rattle.answer.specs.Ends.{Writes, over}
 use Rattle.answer.proofs.Ends.{ends-coincide, writes-once}
 use Rattle.polys.specs.Poly.{vars}
 use Rattle.terms.specs.Width.{widthOf}
-use Rattle.terms.proofs.Width.{width-le}
+use Rattle.masks.proofs.Width.{width-le}
 use Rattle.digits.specs.Number.{Below}
 use Rattle.digits.proofs.Bits.{length-fields}
-use Rattle.block.specs.Format.{nIn, tIn, blockOf}
+use Rattle.packing.specs.Format.{nIn, tIn, blockOf}
 use Rattle.block.specs.Calls.{readChecks, ReadEnds, writeChecks, WriteEnds}
 use Rattle.terms.proofs.Vars.{vars-below}
 use Rattle.block.proofs.Fields.{Holds, block-holds, block-unique}

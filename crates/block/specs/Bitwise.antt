@@ -5,7 +5,7 @@ use mathlib.Core.List.{List, _++_}
 use lib.ListN.{length, replicate}
 use Rattle.terms.specs.Width.{widthOf}
 use Rattle.digits.specs.Bitwise.{bitsOf, row}
-use Rattle.block.specs.Format.{spare}
+use Rattle.packing.specs.Format.{spare}
 
 -- form number, n, t, terms, padding
 abbrev pub blockBits : List ℕ → List Bool

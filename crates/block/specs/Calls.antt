@@ -9,7 +9,7 @@ use Rattle.answer.specs.declared.Answer.{Answer}
 use Rattle.answer.specs.Ends.{Check, check, Ends, Writes}
 use Rattle.terms.specs.Order.{unordered}
 use Rattle.terms.specs.Width.{widthOf}
-use Rattle.block.specs.Format.{size, formIn, nIn, tIn, termsIn, spareIn, sizeOf, blockOf}
+use Rattle.packing.specs.Format.{size, formIn, nIn, tIn, termsIn, spareIn, sizeOf, blockOf}
 
 -- the checks of what stands behind a header with this n and t: test, code, operand, place
 abbrev pub bodyChecks : List ℕ → ℕ → ℕ → ℕ → List Check

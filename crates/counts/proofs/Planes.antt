@@ -47,9 +47,10 @@ count-zeros zero v = refl
 count-zeros (suc k) v = omega (arith, digit-none v, count-zeros k v)
 
 -- four planes
-pub count-four : (a b c d v : ℕ) → countAt (a ∷ b ∷ c ∷ d ∷ []) v ≡ digit a v + 2 * digit b v + 4 * digit c v + 8 * digit d v
+pub count-four : (a b c d : ℕ) (l : List ℕ) → l ≡ a ∷ b ∷ c ∷ d ∷ []
+    → (length l ≡ 4) × ((v : ℕ) → countAt l v ≡ digit a v + 2 * digit b v + 4 * digit c v + 8 * digit d v)
 unfolding countAt
-count-four a b c d v = omega arith
+count-four a b c d l e = (ap length e, (λ v. omega (arith, ap (λ l. countAt l v) e)))
 
 -- equal counters stand in the same planes
 pub same-planes : (p q : List ℕ) (j v : ℕ) → length p ≡ length q → countAt p v ≡ countAt q v → bit (getD p j 0) v ≡ bit (getD q j 0) v
@@ -63,7 +64,7 @@ same-planes (x ∷ p) (y ∷ q) (suc j) v e h = same-planes p q j v (omega arith
 -- ---- the carry
 
 -- it goes on by one plane
-pub carried : (l : List ℕ) (j c v : ℕ) → j < length l
+carried : (l : List ℕ) (j c v : ℕ) → j < length l
     → countAt (set l j (bitXor (getD l j 0) c)) v + 2 ^ (j + 1) * digit (bitAnd (getD l j 0) c) v ≡ countAt l v + 2 ^ j * digit c v
 carried l j c v h =
     omega (
@@ -88,11 +89,15 @@ carry-within l j c some room =
     let here = room (w .0) in
     omega (arith, ap (λ k. 2 ^ j * k) (w .1)))
 
--- the room is left
-pub carry-room : (l : List ℕ) (j c : ℕ) → j < length l → Room l (λ (v : ℕ). 2 ^ j * digit c v)
-    → Room (set l j (bitXor (getD l j 0) c)) (λ (v : ℕ). 2 ^ (j + 1) * digit (bitAnd (getD l j 0) c) v)
-carry-room l j c within room v =
-    omega (arith, carried l j c v within, room v, ap (λ k. 2 ^ k) (length-set l j (bitXor (getD l j 0) c)))
+-- where p stands in plane j and s is written there, with k to carry on, the room is left, and the counters gain as much
+pub carry-step : (l after : List ℕ) (j c p s k : ℕ) → p ≡ getD l j 0 → s ≡ bitXor p c → k ≡ bitAnd p c → after ≡ set l j s → j < length l
+    → Room l (λ (v : ℕ). 2 ^ j * digit c v)
+    → Room after (λ (v : ℕ). 2 ^ (j + 1) * digit k v) × ((v : ℕ) → countAt after v + 2 ^ (j + 1) * digit k v ≡ countAt l v + 2 ^ j * digit c v)
+carry-step l after j c p s k there low high written within room =
+    ((λ v. omega (arith, gained v, room v, ap (λ n. 2 ^ n) (ap length written ∙ length-set l j s))), gained)
+  where
+    gained : (v : ℕ) → countAt after v + 2 ^ (j + 1) * digit k v ≡ countAt l v + 2 ^ j * digit c v
+    gained v = cc (carried l j c v within)
 
 -- nothing is left to carry
 pub carry-over : (j c v : ℕ) → c ≡ 0 → 2 ^ j * digit c v ≡ 0

@@ -1,11 +1,11 @@
 -- Planes added to planes, once and as often as a counter says; and the digits of a number. Leans on Planes.
 use mathlib.Core.Path.{_≡_, refl, sym, ap, ap₂, _∙_}
 use mathlib.Core.List.{List, _∷_, _++_, append-nil}
-use Prim.Native.Nat.{ℕ, zero, suc, _+_, _-_, _*_, _/_, _^_, _<_}
+use Prim.Native.Nat.{ℕ, zero, suc, _+_, _-_, _*_, _/_, _^_, _≤_, _<_}
 use native.Mathlib.Nat.{mul-add, add-mul, mul-comm, mul-assoc, mul-zero, zero-mul, zero-add, pow-succ'}
 use native.Mathlib.Numerals.{add-one}
 use native.Mathlib.Omega.{arith}
-use lib.ListN.{length, getD, drop, set, drop-of-length-le}
+use lib.ListN.{length, getD, drop, set, replicate, drop-of-length-le}
 use lib.Seq.{drop-length, drop-cons, take-all, paste, paste-suc}
 use Rattle.counts.specs.Planes.{digit, countAt, halves}
 use Rattle.counts.proofs.Digits.{digit-none, digit-first}
@@ -27,28 +27,31 @@ plane-sum m s t p q c low high rest e g =
     in
     omega arith
 
--- one plane is added
-pub plane-added : (sum planes : List ℕ) (at j c low high v : ℕ) → at + j < length sum → j < length planes
-    → digit (getD sum (at + j) 0) v + digit (getD planes j 0) v + digit c v ≡ digit low v + 2 * digit high v
-    → countAt (set sum (at + j) low) v + 2 ^ (at + (j + 1)) * (digit high v + countAt (drop (j + 1) planes) v)
+-- one plane q is added to one, p
+pub plane-added : (sum planes after : List ℕ) (at j p q c low high v : ℕ) → p ≡ getD sum (at + j) 0 → q ≡ getD planes j 0
+    → after ≡ set sum (at + j) low → at + j < length sum → j < length planes
+    → digit p v + digit q v + digit c v ≡ digit low v + 2 * digit high v
+    → countAt after v + 2 ^ (at + (j + 1)) * (digit high v + countAt (drop (j + 1) planes) v)
     ≡ countAt sum v + 2 ^ (at + j) * (digit c v + countAt (drop j planes) v)
-plane-added sum planes at j c low high v within more e =
+plane-added sum planes after at j p q c low high v is is' written within more e =
     let next : at + (j + 1) ≡ at + j + 1 = omega arith in
-    ap (λ k. countAt (set sum (at + j) low) v + k * (digit high v + countAt (drop (j + 1) planes) v)) (ap (λ k. 2 ^ k) next ∙ power-next (at + j))
-    ∙ plane-sum (2 ^ (at + j)) (countAt sum v) (countAt (set sum (at + j) low) v) (digit (getD sum (at + j) 0) v) (digit (getD planes j 0) v)
-    (digit c v) (digit low v) (digit high v) (countAt (drop (j + 1) planes) v) (count-set sum (at + j) low v within) e
-    ∙ ap (λ k. countAt sum v + 2 ^ (at + j) * (digit c v + k)) (sym (count-from planes j v more))
+    let put : countAt after v + 2 ^ (at + j) * digit p v ≡ countAt sum v + 2 ^ (at + j) * digit low v = cc (count-set sum (at + j) low v within) in
+    let from : digit q v + 2 * countAt (drop (j + 1) planes) v ≡ countAt (drop j planes) v = cc (count-from planes j v more) in
+    ap (λ k. countAt after v + k * (digit high v + countAt (drop (j + 1) planes) v)) (ap (λ k. 2 ^ k) next ∙ power-next (at + j))
+    ∙ plane-sum (2 ^ (at + j)) (countAt sum v) (countAt after v) (digit p v) (digit q v) (digit c v) (digit low v) (digit high v)
+    (countAt (drop (j + 1) planes) v) put e
+    ∙ ap (λ k. countAt sum v + 2 ^ (at + j) * (digit c v + k)) from
 
 -- behind the last plane only the carry is left
 pub planes-over : (planes : List ℕ) (j v : ℕ) → j ≡ length planes → countAt (drop j planes) v ≡ 0
 unfolding countAt
 planes-over planes j v e = ap (λ k. countAt (drop k planes) v) e ∙ ap (λ l. countAt l v) (drop-length planes)
 
-pub planes-start : (sum planes : List ℕ) (at v : ℕ)
-    → countAt sum v + 2 ^ (at + 0) * (digit 0 v + countAt planes v) ≡ countAt sum v + 2 ^ at * countAt planes v
-planes-start sum planes at v =
+pub planes-start : (sum planes : List ℕ) (at c : ℕ) → c ≡ 0
+    → (v : ℕ) → countAt sum v + 2 ^ (at + 0) * (digit c v + countAt planes v) ≡ countAt sum v + 2 ^ at * countAt planes v
+planes-start sum planes at c e v =
     let here : at + 0 ≡ at = omega arith in
-    let none : digit 0 v + countAt planes v ≡ countAt planes v = omega (arith, digit-none v) in
+    let none : digit c v + countAt planes v ≡ countAt planes v = omega (arith, ap (λ n. digit n v) e, digit-none v) in
     ap₂ (λ (k d : ℕ). countAt sum v + 2 ^ k * d) here none
 
 pub carry-left : (planes : List ℕ) (at j c v : ℕ) → j ≡ length planes
@@ -75,14 +78,21 @@ times-over by j w k e = ap (λ n. 2 ^ j * n) (ap (λ n. n * k) (planes-over by j
 
 -- ---- the digits of a number
 
-pub count-halves : (k n : ℕ) → n < 2 ^ k → countAt (halves k n) 0 ≡ n
+count-halves : (k n : ℕ) → n < 2 ^ k → countAt (halves k n) 0 ≡ n
 unfolding countAt
 count-halves zero n h = omega arith
 count-halves (suc k) n h = let half : n / 2 < 2 ^ k = omega (arith, pow-succ' 2 k) in omega (arith, digit-first n, count-halves k (n / 2) half)
 
-pub length-halves : (k n : ℕ) → length (halves k n) ≡ k
+length-halves : (k n : ℕ) → length (halves k n) ≡ k
 length-halves zero n = refl
 length-halves (suc k) n = ap suc (length-halves k (n / 2))
+
+-- sixteen planes in place of empty ones
+pub sixteen-halves : (n : ℕ) (none digits : List ℕ) → none ≡ replicate 16 0 → digits ≡ halves (length none) n → n ≤ 65535
+    → (length digits ≡ 16) × (countAt digits 0 ≡ n)
+sixteen-halves n none digits is e small =
+    let sixteen = e ∙ ap (λ l. halves (length l) n) is in
+    (ap length sixteen ∙ length-halves 16 n, ap (λ l. countAt l 0) sixteen ∙ count-halves 16 n (omega arith))
 
 -- the number that is next, and what comes behind it
 pub next-half : (k n i m : ℕ) → i < k → drop i (halves k n) ≡ halves (k - i) m

@@ -1,11 +1,11 @@
 -- How many terms hold x and a variable: of one term, of a list from a place on, of a list that is over. Leans on Holding.
-use mathlib.Core.Path.{_≡_, refl, sym, ap, _∙_}
+use mathlib.Core.Path.{_≡_, refl, sym, ap, ap₂, _∙_}
 use mathlib.Core.Bool.{Bool, true, false, false≢true}
 use mathlib.Core.List.{List, [], _∷_}
 use Prim.Native.Nat.{ℕ, _+_, _^_, _≤_, _<_}
 use native.Mathlib.Omega.{arith}
 use native.Mathlib.Numerals.{add-one}
-use borrow.Author.Tests.{eq-eqb, ne-eqb}
+use borrow.Author.Tests.{eq-eqb, ne-eqb, eqb-true, eqb-false}
 use lib.Bits.{bitAnd, bitOr}
 use lib.Dec.{eqb}
 use lib.ListN.{length, getD, drop}
@@ -39,9 +39,13 @@ module _ (s t : ℕ) where
 
 -- ---- the terms that hold x and a variable
 
+abbrev kept : Bool → ℕ → ℕ
+kept true t = t
+kept false t = 0
+
 module _ (x t v : ℕ) where
   -- a term that holds x holds x and its own variables
-  pub term-with : bitAnd t x ≡ x → digit t v ≡ holding x (t ∷ []) v
+  term-with : bitAnd t x ≡ x → digit t v ≡ holding x (t ∷ []) v
   unfolding digit holding
   term-with h = go (bit t v) refl
     where
@@ -56,20 +60,29 @@ module _ (x t v : ℕ) where
       go false e = sym (miss (bitOr x (2 ^ v)) t (λ g. false≢true (sym e ∙ bit-of-power-subset v t (second t x (2 ^ v) g))))
 
   -- a term without x counts nowhere
-  pub term-without : ¬ (bitAnd t x ≡ x) → digit 0 v ≡ holding x (t ∷ []) v
+  term-without : ¬ (bitAnd t x ≡ x) → digit 0 v ≡ holding x (t ∷ []) v
   unfolding holding
   term-without h = digit-none v ∙ sym (miss (bitOr x (2 ^ v)) t (λ g. h (first t x (2 ^ v) g)))
     where
       first : (t x p : ℕ) → bitAnd t (bitOr x p) ≡ bitOr x p → bitAnd t x ≡ x
       first = identity 3 (λ t x p. t ∩ (x ∪ p) ≐ x ∪ p ⇒ ∴ t ∩ x ≐ x) tt
 
+  -- o is what is kept of t, as the test r says
+  pub term-held : (s o : ℕ) (r d : Bool) → s ≡ bitAnd t x → r ≡ eqb s x → r ≡ d → o ≡ kept d t → digit o v ≡ holding x (t ∷ []) v
+  term-held s o r true both test is out = ap (λ n. digit n v) out ∙ term-with (sym both ∙ eqb-true s x (sym test ∙ is))
+  term-held s o r false both test is out = ap (λ n. digit n v) out ∙ term-without (λ h. eqb-false s x (sym test ∙ is) (both ∙ h))
+
 module _ (x : ℕ) (f : List ℕ) where
-  -- the term at i, and those from the next place on
-  pub one-more : (i j v : ℕ) → i + 1 ≡ j → i < length f → holding x (drop i f) v ≡ holding x (getD f i 0 ∷ []) v + holding x (drop j f) v
+  -- the term t at i, and those from the next place on
+  pub one-more : (i j t v : ℕ) → t ≡ getD f i 0 → i + 1 ≡ j → i < length f → holding x (drop i f) v ≡ holding x (t ∷ []) v + holding x (drop j f) v
   unfolding holding
-  one-more i j v e h =
-      ap (λ l. holding x l v) (drop-cons f i 0 h ∙ ap (λ k. getD f i 0 ∷ drop k f) (sym (add-one i) ∙ e))
-      ∙ having-cons (bitOr x (2 ^ v)) (getD f i 0) (drop j f)
+  one-more i j t v is e h =
+      ap (λ l. holding x l v) (drop-cons f i 0 h ∙ ap₂ (λ n k. n ∷ drop k f) (sym is) (sym (add-one i) ∙ e))
+      ∙ having-cons (bitOr x (2 ^ v)) t (drop j f)
+
+  -- the terms from a place on, however the place is written
+  pub from : (i j v : ℕ) → i ≡ j → holding x (drop i f) v ≡ holding x (drop j f) v
+  from i j v e = ap (λ k. holding x (drop k f) v) e
 
   -- behind the end there is none
   pub none-left : (i v : ℕ) → i ≡ length f → holding x (drop i f) v ≡ 0
@@ -97,16 +110,16 @@ holding-alone f v = ap (λ s. length (having s f)) (none (2 ^ v))
     none : (p : ℕ) → bitOr 0 p ≡ p
     none = identity 1 (λ p. ∴ ∅ ∪ p ≐ p) tt
 
--- the digit of a plane, where it is asked by a word of one variable
-module _ (p b w : ℕ) (e : b ≡ 2 ^ w) where
-  asked : digit p w ≡ length (having b (p ∷ []))
-  asked = term-with 0 p w (none p) ∙ holding-alone (p ∷ []) w ∙ ap (λ s. length (having s (p ∷ []))) (sym e)
+-- the digit of the plane p, which is plane j, where it is asked by a word of one variable
+module _ (by : List ℕ) (j p b w : ℕ) (e : b ≡ 2 ^ w) (there : p ≡ getD by j 0) where
+  asked : digit (getD by j 0) w ≡ length (having b (p ∷ []))
+  asked =
+      ap (λ n. digit n w) (sym there) ∙ term-with 0 p w (none p) ∙ holding-alone (p ∷ []) w ∙ ap (λ s. length (having s (p ∷ []))) (sym e)
     where
       none : (p : ℕ) → bitAnd p 0 ≡ 0
       none = identity 1 (λ p. ∴ p ∩ ∅ ≐ ∅) tt
 
-  pub plane-holds : bitAnd p b ≡ b → digit p w ≡ 1
-  plane-holds h = asked ∙ hit b p h
-
-  pub plane-lacks : ¬ (bitAnd p b ≡ b) → digit p w ≡ 0
-  plane-lacks h = asked ∙ miss b p h
+  -- r is the answer
+  pub plane-says : (s : ℕ) (r d : Bool) → s ≡ bitAnd p b → r ≡ eqb s b → r ≡ d → digit (getD by j 0) w ≡ one d
+  plane-says s r true both test is = asked ∙ hit b p (sym both ∙ eqb-true s b (sym test ∙ is))
+  plane-says s r false both test is = asked ∙ miss b p (λ h. eqb-false s b (sym test ∙ is) (both ∙ h))

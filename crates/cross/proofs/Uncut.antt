@@ -44,6 +44,20 @@ pub same-exchanged : (k : ℕ) (a d b c : List ℕ) → SameProducts k d a c b �
 same-exchanged k a d b c h =
     same-from-equal k a d b c (laws k .mul-comm (value k a) (value k d) ∙ equal-from-same k d a c b h ∙ laws k .mul-comm (value k c) (value k b))
 
+-- ---- what is told of a length that was counted
+
+pub one-counted : {n m : ℕ} → n ≡ m → n ≡ 1 → m ≡ 1
+one-counted e t = sym e ∙ t
+
+pub none-counted : {n m : ℕ} → n ≡ m → n ≡ 0 → m ≡ 0
+none-counted e t = sym e ∙ t
+
+pub some-counted : {n m : ℕ} → n ≡ m → 0 < n → 0 < m
+some-counted e t = omega arith
+
+pub not-none-counted : {n m : ℕ} → n ≡ m → ¬ (n ≡ 0) → ¬ (m ≡ 0)
+not-none-counted e t z = t (e ∙ z)
+
 -- ---- empty lists
 
 pub value-of-empty : (k : ℕ) (l : List ℕ) → length l ≡ 0 → value k l ≡ nought k

@@ -5,17 +5,18 @@
 // equal ratios are asked along a tree from the smallest, and constant variables are skipped at once by a mask.
 ghost use mathlib.Core.Path.{_≡_};
 ghost use Prim.Native.Nat.{suc, _≤_, _<_};
+ghost use lib.ListN.{length};
+ghost use Rattle.narrow.specs.Numbers.{numbers, lines};
 ghost use Rattle.ring.specs.Same.{SameProducts};
 ghost use Rattle.ring.specs.Run.{Decides};
 ghost use Rattle.ring.specs.Ends.{Four};
 ghost use Rattle.runs.specs.Read.{shape};
-ghost use lib.ListN.{length};
 ghost use Rattle.cross.specs.Asked.{Runs, Halves, Joined, Ratios, OneRatio, Whole, Both, Eight, Agree, Stands};
 
 // The four-list test: whether AD = BC, on the variables below k.
 pub fn same(a: &[u64], d: &[u64], b: &[u64], c: &[u64], k: u64) -> bool
-    requires { ⌜ (k ≤ 64) × Runs k (now a) (now d) (now b) (now c) ⌝ }
-    ensures { λ r. ⌜ Decides r (SameProducts k (now (a .entry)) (now (d .entry)) (now (b .entry)) (now (c .entry))) ⌝ }
+    requires { ⌜ (k ≤ lines) × Runs k (numbers (now a)) (numbers (now d)) (numbers (now b)) (numbers (now c)) ⌝ }
+    ensures { λ r. ⌜ Decides r (SameProducts k (numbers (now (a .entry))) (numbers (now (d .entry))) (numbers (now (b .entry))) (numbers (now (c .entry)))) ⌝ }
 {
     if runs::vanish(a, d) {
         return runs::vanish(b, c);
@@ -28,23 +29,23 @@ pub fn same(a: &[u64], d: &[u64], b: &[u64], c: &[u64], k: u64) -> bool
 
 // The same, where no list is empty: with one term on each side the others match in order.
 fn settle(a: &[u64], d: &[u64], b: &[u64], c: &[u64], k: u64) -> bool
-    requires { ⌜ (k ≤ 64) × Four k (now a) (now d) (now b) (now c) ⌝ }
-    ensures { λ r. ⌜ Decides r (SameProducts k (now (a .entry)) (now (d .entry)) (now (b .entry)) (now (c .entry))) ⌝ }
+    requires { ⌜ (k ≤ lines) × Four k (numbers (now a)) (numbers (now d)) (numbers (now b)) (numbers (now c)) ⌝ }
+    ensures { λ r. ⌜ Decides r (SameProducts k (numbers (now (a .entry))) (numbers (now (d .entry))) (numbers (now (b .entry))) (numbers (now (c .entry)))) ⌝ }
 {
-    if a.len() == 1 {
-        if b.len() == 1 {
-            return runs::matched(a[0], b[0], d, c, k);
+    if narrow::count(a) == 1 {
+        if narrow::count(b) == 1 {
+            return runs::matched(narrow::at(a, 0), narrow::at(b, 0), d, c, k);
         }
-        if c.len() == 1 {
-            return runs::matched(a[0], c[0], d, b, k);
+        if narrow::count(c) == 1 {
+            return runs::matched(narrow::at(a, 0), narrow::at(c, 0), d, b, k);
         }
     }
-    if d.len() == 1 {
-        if b.len() == 1 {
-            return runs::matched(d[0], b[0], a, c, k);
+    if narrow::count(d) == 1 {
+        if narrow::count(b) == 1 {
+            return runs::matched(narrow::at(d, 0), narrow::at(b, 0), a, c, k);
         }
-        if c.len() == 1 {
-            return runs::matched(d[0], c[0], a, b, k);
+        if narrow::count(c) == 1 {
+            return runs::matched(narrow::at(d, 0), narrow::at(c, 0), a, b, k);
         }
     }
     skip(a, d, b, c, k)
@@ -52,8 +53,8 @@ fn settle(a: &[u64], d: &[u64], b: &[u64], c: &[u64], k: u64) -> bool
 
 // The same without the constant variables on top, which stand equally often on either side or refuse.
 fn skip(a: &[u64], d: &[u64], b: &[u64], c: &[u64], k: u64) -> bool
-    requires { ⌜ (k ≤ 64) × Four k (now a) (now d) (now b) (now c) ⌝ }
-    ensures { λ r. ⌜ Decides r (SameProducts k (now (a .entry)) (now (d .entry)) (now (b .entry)) (now (c .entry))) ⌝ }
+    requires { ⌜ (k ≤ lines) × Four k (numbers (now a)) (numbers (now d)) (numbers (now b)) (numbers (now c)) ⌝ }
+    ensures { λ r. ⌜ Decides r (SameProducts k (numbers (now (a .entry))) (numbers (now (d .entry))) (numbers (now (b .entry))) (numbers (now (c .entry)))) ⌝ }
 {
     let w = runs::left(runs::vary(a, d, b, c, k), k);
     if runs::within(runs::clash(a, d, b, c, k), w, k) {
@@ -64,8 +65,8 @@ fn skip(a: &[u64], d: &[u64], b: &[u64], c: &[u64], k: u64) -> bool
 
 // The same: a list that stands on both sides leaves a comparison, and else the lists are cut.
 fn unlike(a: &[u64], d: &[u64], b: &[u64], c: &[u64], k: u64) -> bool
-    requires { ⌜ (k ≤ 64) × Four k (now a) (now d) (now b) (now c) ⌝ }
-    ensures { λ r. ⌜ Decides r (SameProducts k (now (a .entry)) (now (d .entry)) (now (b .entry)) (now (c .entry))) ⌝ }
+    requires { ⌜ (k ≤ lines) × Four k (numbers (now a)) (numbers (now d)) (numbers (now b)) (numbers (now c)) ⌝ }
+    ensures { λ r. ⌜ Decides r (SameProducts k (numbers (now (a .entry))) (numbers (now (d .entry))) (numbers (now (b .entry))) (numbers (now (c .entry)))) ⌝ }
 {
     if k == 0 {
         return true;
@@ -81,13 +82,13 @@ fn unlike(a: &[u64], d: &[u64], b: &[u64], c: &[u64], k: u64) -> bool
 
 // The cross test: the lists are cut at their highest variable k, and the halves are asked about.
 fn cross(a: &[u64], d: &[u64], b: &[u64], c: &[u64], k: u64) -> bool
-    requires { ⌜ (k < 64) × Four (suc k) (now a) (now d) (now b) (now c) ⌝ }
-    ensures { λ r. ⌜ Decides r (SameProducts (suc k) (now (a .entry)) (now (d .entry)) (now (b .entry)) (now (c .entry))) ⌝ }
+    requires { ⌜ (k < lines) × Four (suc k) (numbers (now a)) (numbers (now d)) (numbers (now b)) (numbers (now c)) ⌝ }
+    ensures { λ r. ⌜ Decides r (SameProducts (suc k) (numbers (now (a .entry))) (numbers (now (d .entry))) (numbers (now (b .entry))) (numbers (now (c .entry)))) ⌝ }
 {
-    let i = runs::cut(a, k);
-    let j = runs::cut(d, k);
-    let m = runs::cut(b, k);
-    let n = runs::cut(c, k);
+    let i = narrow::words(runs::cut(a, k));
+    let j = narrow::words(runs::cut(d, k));
+    let m = narrow::words(runs::cut(b, k));
+    let n = narrow::words(runs::cut(c, k));
     halves(
         &a[0..i],
         &a[i..],
@@ -113,8 +114,8 @@ fn halves(
     c1: &[u64],
     k: u64,
 ) -> bool
-    requires { ⌜ (k < 64) × Halves k (now a0) (now a1) (now d0) (now d1) (now b0) (now b1) (now c0) (now c1) ⌝ }
-    ensures { λ r. ⌜ Decides r (Joined k (now (a0 .entry)) (now (a1 .entry)) (now (d0 .entry)) (now (d1 .entry)) (now (b0 .entry)) (now (b1 .entry)) (now (c0 .entry)) (now (c1 .entry))) ⌝ }
+    requires { ⌜ (k < lines) × Halves k (numbers (now a0)) (numbers (now a1)) (numbers (now d0)) (numbers (now d1)) (numbers (now b0)) (numbers (now b1)) (numbers (now c0)) (numbers (now c1)) ⌝ }
+    ensures { λ r. ⌜ Decides r (Joined k (numbers (now (a0 .entry))) (numbers (now (a1 .entry))) (numbers (now (d0 .entry))) (numbers (now (d1 .entry))) (numbers (now (b0 .entry))) (numbers (now (b1 .entry))) (numbers (now (c0 .entry))) (numbers (now (c1 .entry)))) ⌝ }
 {
     let p = runs::pairing(
         runs::shape_of(a0, a1),
@@ -143,20 +144,20 @@ fn opposed(
     c1: &[u64],
     k: u64,
 ) -> bool
-    requires { ⌜ (k < 64) × Halves k (now a0) (now a1) (now d0) (now d1) (now b0) (now b1) (now c0) (now c1) ⌝ }
-    requires { ⌜ (shape (now a0) (now a1) ≡ shape (now b0) (now b1)) × (shape (now d0) (now d1) ≡ shape (now c0) (now c1)) ⌝ }
-    ensures { λ r. ⌜ Decides r (Joined k (now (a0 .entry)) (now (a1 .entry)) (now (d0 .entry)) (now (d1 .entry)) (now (b0 .entry)) (now (b1 .entry)) (now (c0 .entry)) (now (c1 .entry))) ⌝ }
+    requires { ⌜ (k < lines) × Halves k (numbers (now a0)) (numbers (now a1)) (numbers (now d0)) (numbers (now d1)) (numbers (now b0)) (numbers (now b1)) (numbers (now c0)) (numbers (now c1)) ⌝ }
+    requires { ⌜ (shape (numbers (now a0)) (numbers (now a1)) ≡ shape (numbers (now b0)) (numbers (now b1))) × (shape (numbers (now d0)) (numbers (now d1)) ≡ shape (numbers (now c0)) (numbers (now c1))) ⌝ }
+    ensures { λ r. ⌜ Decides r (Joined k (numbers (now (a0 .entry))) (numbers (now (a1 .entry))) (numbers (now (d0 .entry))) (numbers (now (d1 .entry))) (numbers (now (b0 .entry))) (numbers (now (b1 .entry))) (numbers (now (c0 .entry))) (numbers (now (c1 .entry)))) ⌝ }
 {
-    if a1.len() == 0 {
+    if narrow::count(a1) == 0 {
         return ratios(a0, b0, c1, d1, c0, d0, k);
     }
-    if a0.len() == 0 {
+    if narrow::count(a0) == 0 {
         return ratios(a1, b1, c1, d1, c0, d0, k);
     }
-    if d1.len() == 0 {
+    if narrow::count(d1) == 0 {
         return ratios(d0, c0, b1, a1, b0, a0, k);
     }
-    if d0.len() == 0 {
+    if narrow::count(d0) == 0 {
         return ratios(d1, c1, b1, a1, b0, a0, k);
     }
     whole(a0, a1, d0, d1, b0, b1, c0, c1, k)
@@ -164,20 +165,20 @@ fn opposed(
 
 // Whether three ratios are one: the smallest is asked against the other two. Of equally small ones the first comes last.
 fn ratios(p1: &[u64], q1: &[u64], p2: &[u64], q2: &[u64], p3: &[u64], q3: &[u64], k: u64) -> bool
-    requires { ⌜ (k < 64) × Ratios k (now p1) (now q1) (now p2) (now q2) (now p3) (now q3) ⌝ }
-    ensures { λ r. ⌜ Decides r (OneRatio k (now (p1 .entry)) (now (q1 .entry)) (now (p2 .entry)) (now (q2 .entry)) (now (p3 .entry)) (now (q3 .entry))) ⌝ }
+    requires { ⌜ (k < lines) × Ratios k (numbers (now p1)) (numbers (now q1)) (numbers (now p2)) (numbers (now q2)) (numbers (now p3)) (numbers (now q3)) ⌝ }
+    ensures { λ r. ⌜ Decides r (OneRatio k (numbers (now (p1 .entry))) (numbers (now (q1 .entry))) (numbers (now (p2 .entry))) (numbers (now (q2 .entry))) (numbers (now (p3 .entry))) (numbers (now (q3 .entry)))) ⌝ }
 {
-    let s1 = p1.len() + q1.len();
-    let s2 = p2.len() + q2.len();
-    let s3 = p3.len() + q3.len();
-    if 0 < q2.len() {
+    let s1 = runs::size(p1, q1);
+    let s2 = runs::size(p2, q2);
+    let s3 = runs::size(p3, q3);
+    if 0 < narrow::count(q2) {
         if s2 <= s1 {
             if s2 <= s3 {
                 return against(p2, q2, p1, q1, p3, q3, k);
             }
         }
     }
-    if 0 < q3.len() {
+    if 0 < narrow::count(q3) {
         if s3 <= s1 {
             return against(p3, q3, p1, q1, p2, q2, k);
         }
@@ -187,10 +188,10 @@ fn ratios(p1: &[u64], q1: &[u64], p2: &[u64], q2: &[u64], p3: &[u64], q3: &[u64]
 
 // A ratio against two others, the smaller of them first.
 fn against(p1: &[u64], q1: &[u64], p2: &[u64], q2: &[u64], p3: &[u64], q3: &[u64], k: u64) -> bool
-    requires { ⌜ (k < 64) × Ratios k (now p1) (now q1) (now p2) (now q2) (now p3) (now q3) ⌝ }
-    ensures { λ r. ⌜ Decides r (OneRatio k (now (p1 .entry)) (now (q1 .entry)) (now (p2 .entry)) (now (q2 .entry)) (now (p3 .entry)) (now (q3 .entry))) ⌝ }
+    requires { ⌜ (k < lines) × Ratios k (numbers (now p1)) (numbers (now q1)) (numbers (now p2)) (numbers (now q2)) (numbers (now p3)) (numbers (now q3)) ⌝ }
+    ensures { λ r. ⌜ Decides r (OneRatio k (numbers (now (p1 .entry))) (numbers (now (q1 .entry))) (numbers (now (p2 .entry))) (numbers (now (q2 .entry))) (numbers (now (p3 .entry))) (numbers (now (q3 .entry)))) ⌝ }
 {
-    if p3.len() + q3.len() < p2.len() + q2.len() {
+    if runs::size(p3, q3) < runs::size(p2, q2) {
         return both(p1, q3, q1, p3, p1, q2, q1, p2, k);
     }
     both(p1, q2, q1, p2, p1, q3, q1, p3, k)
@@ -208,9 +209,9 @@ fn both(
     c0: &[u64],
     k: u64,
 ) -> bool
-    requires { ⌜ (k < 64) × Runs k (now a1) (now d1) (now b1) (now c1) ⌝ }
-    requires { ⌜ Runs k (now a0) (now d0) (now b0) (now c0) ⌝ }
-    ensures { λ r. ⌜ Decides r (Both k (now (a0 .entry)) (now (a1 .entry)) (now (d0 .entry)) (now (d1 .entry)) (now (b0 .entry)) (now (b1 .entry)) (now (c0 .entry)) (now (c1 .entry))) ⌝ }
+    requires { ⌜ (k < lines) × Runs k (numbers (now a1)) (numbers (now d1)) (numbers (now b1)) (numbers (now c1)) ⌝ }
+    requires { ⌜ Runs k (numbers (now a0)) (numbers (now d0)) (numbers (now b0)) (numbers (now c0)) ⌝ }
+    ensures { λ r. ⌜ Decides r (Both k (numbers (now (a0 .entry))) (numbers (now (a1 .entry))) (numbers (now (d0 .entry))) (numbers (now (d1 .entry))) (numbers (now (b0 .entry))) (numbers (now (b1 .entry))) (numbers (now (c0 .entry))) (numbers (now (c1 .entry)))) ⌝ }
 {
     if same(a1, d1, b1, c1, k) {
         return same(a0, d0, b0, c0, k);
@@ -230,11 +231,11 @@ fn whole(
     c1: &[u64],
     k: u64,
 ) -> bool
-    requires { ⌜ (k < 64) × Whole k (now a0) (now a1) (now d0) (now d1) (now b0) (now b1) (now c0) (now c1) ⌝ }
-    ensures { λ r. ⌜ Decides r (Joined k (now (a0 .entry)) (now (a1 .entry)) (now (d0 .entry)) (now (d1 .entry)) (now (b0 .entry)) (now (b1 .entry)) (now (c0 .entry)) (now (c1 .entry))) ⌝ }
+    requires { ⌜ (k < lines) × Whole k (numbers (now a0)) (numbers (now a1)) (numbers (now d0)) (numbers (now d1)) (numbers (now b0)) (numbers (now b1)) (numbers (now c0)) (numbers (now c1)) ⌝ }
+    ensures { λ r. ⌜ Decides r (Joined k (numbers (now (a0 .entry))) (numbers (now (a1 .entry))) (numbers (now (d0 .entry))) (numbers (now (d1 .entry))) (numbers (now (b0 .entry))) (numbers (now (b1 .entry))) (numbers (now (c0 .entry))) (numbers (now (c1 .entry)))) ⌝ }
 {
-    let low = a0.len() + d0.len() + b0.len() + c0.len();
-    let high = a1.len() + d1.len() + b1.len() + c1.len();
+    let low = runs::size(a0, d0) + runs::size(b0, c0);
+    let high = runs::size(a1, d1) + runs::size(b1, c1);
     if low < high {
         return agree(a1, a0, d1, d0, b1, b0, c1, c0, k);
     }
@@ -254,8 +255,8 @@ fn agree(
     c1: &[u64],
     k: u64,
 ) -> bool
-    requires { ⌜ (k < 64) × Eight k (now a0) (now a1) (now d0) (now d1) (now b0) (now b1) (now c0) (now c1) ⌝ }
-    ensures { λ r. ⌜ Decides r (Agree k (now (a0 .entry)) (now (a1 .entry)) (now (d0 .entry)) (now (d1 .entry)) (now (b0 .entry)) (now (b1 .entry)) (now (c0 .entry)) (now (c1 .entry))) ⌝ }
+    requires { ⌜ (k < lines) × Eight k (numbers (now a0)) (numbers (now a1)) (numbers (now d0)) (numbers (now d1)) (numbers (now b0)) (numbers (now b1)) (numbers (now c0)) (numbers (now c1)) ⌝ }
+    ensures { λ r. ⌜ Decides r (Agree k (numbers (now (a0 .entry))) (numbers (now (a1 .entry))) (numbers (now (d0 .entry))) (numbers (now (d1 .entry))) (numbers (now (b0 .entry))) (numbers (now (b1 .entry))) (numbers (now (c0 .entry))) (numbers (now (c1 .entry)))) ⌝ }
 {
     if same(a1, d1, b1, c1, k) {
         let one = stand(a0, a1, d0, d1, b0, b1, c0, c1, k);
@@ -285,11 +286,11 @@ fn stand(
     c1: &[u64],
     k: u64,
 ) -> u64
-    requires { ⌜ (k < 64) × Eight k (now a0) (now a1) (now d0) (now d1) (now b0) (now b1) (now c0) (now c1) ⌝ }
-    requires { ⌜ SameProducts k (now a1) (now d1) (now b1) (now c1) ⌝ }
-    ensures { λ r. ⌜ Stands r k (now (a1 .entry)) (now (b1 .entry)) (now (a0 .entry)) (now (b0 .entry)) (now (c0 .entry)) (now (d0 .entry)) ⌝ }
+    requires { ⌜ (k < lines) × Eight k (numbers (now a0)) (numbers (now a1)) (numbers (now d0)) (numbers (now d1)) (numbers (now b0)) (numbers (now b1)) (numbers (now c0)) (numbers (now c1)) ⌝ }
+    requires { ⌜ SameProducts k (numbers (now a1)) (numbers (now d1)) (numbers (now b1)) (numbers (now c1)) ⌝ }
+    ensures { λ r. ⌜ Stands r k (numbers (now (a1 .entry))) (numbers (now (b1 .entry))) (numbers (now (a0 .entry))) (numbers (now (b0 .entry))) (numbers (now (c0 .entry))) (numbers (now (d0 .entry))) ⌝ }
 {
-    if c1.len() + d1.len() < a1.len() + b1.len() {
+    if runs::size(c1, d1) < runs::size(a1, b1) {
         return compared(c1, d1, a0, b0, c0, d0, k);
     }
     compared(a1, b1, a0, b0, c0, d0, k)
@@ -297,9 +298,9 @@ fn stand(
 
 // How a ratio stands to two others: 2 if the three are one, 1 if it is the first of the two alone, 0 if it is not even that.
 fn compared(p1: &[u64], q1: &[u64], p2: &[u64], q2: &[u64], p3: &[u64], q3: &[u64], k: u64) -> u64
-    requires { ⌜ (k < 64) × Ratios k (now p1) (now q1) (now p2) (now q2) (now p3) (now q3) ⌝ }
-    requires { ⌜ 0 < length (now q2) ⌝ }
-    ensures { λ r. ⌜ Stands r k (now (p1 .entry)) (now (q1 .entry)) (now (p2 .entry)) (now (q2 .entry)) (now (p3 .entry)) (now (q3 .entry)) ⌝ }
+    requires { ⌜ (k < lines) × Ratios k (numbers (now p1)) (numbers (now q1)) (numbers (now p2)) (numbers (now q2)) (numbers (now p3)) (numbers (now q3)) ⌝ }
+    requires { ⌜ 0 < length (numbers (now q2)) ⌝ }
+    ensures { λ r. ⌜ Stands r k (numbers (now (p1 .entry))) (numbers (now (q1 .entry))) (numbers (now (p2 .entry))) (numbers (now (q2 .entry))) (numbers (now (p3 .entry))) (numbers (now (q3 .entry))) ⌝ }
 {
     if same(p1, q2, q1, p2, k) {
         if same(p1, q3, q1, p3, k) {

@@ -16,7 +16,7 @@ use Rattle.rule.specs.Rule.{Below}
 use Rattle.terms.proofs.Vars.{vars-below}
 use Rattle.unique.specs.Lengths.{lengthsMultiplied, lengthsAdded}
 use Rattle.unique.proofs.Counts.{lengths-sum, number-of-parts}
-use Rattle.parts.specs.Split.{joined, lengths}
+use Rattle.taking.specs.Joined.{joined, lengths}
 use Rattle.demands.specs.Told.{cut, Words}
 
 -- the variables of words of n bits are below n

@@ -24,14 +24,15 @@ use Rattle.ring.specs.Same.{ordinary, multiplied, Same}
 use Rattle.factors.specs.Ordinary.{IrreducibleGF2}
 use Rattle.factors.proofs.Parts.{parts-are-irreducible-over-GF2, parts-multiply-over-GF2}
 use Rattle.block.specs.Calls.{readChecks, writeChecks, ReadEnds, WriteEnds}
-use Rattle.block.specs.Format.{nIn, tIn, termsIn, blockOf}
+use Rattle.packing.specs.Format.{nIn, tIn, termsIn, blockOf}
 use Rattle.block.proofs.RoundTrip.{read-determined, write-determined}
 use Rattle.product.specs.Multiply.{multiplyChecks, MultiplyEnds}
 use Rattle.product.proofs.Algebra.{multiply-is-determined, passed, gave}
 use Rattle.product.proofs.Passing.{apart}
 use Rattle.same.specs.Same.{SameEnds}
 use Rattle.same.proofs.Promise.{same-products-is-determined}
-use Rattle.parts.specs.Split.{Buffers, joined, lengths, splitChecks, Splits, SplitEnds}
+use Rattle.taking.specs.Joined.{joined, lengths}
+use Rattle.parts.specs.Split.{Buffers, splitChecks, Splits, SplitEnds}
 use Rattle.parts.proofs.Determined.{split-is-determined}
 use Rattle.demands.specs.Told.{cut, told, Holds, Words}
 use Rattle.demands.proofs.Buffers.{words-below, cut-joined, counted-lengths, multiplied-words, added-words, added-at-most}

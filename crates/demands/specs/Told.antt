@@ -7,7 +7,8 @@ use Rattle.answer.specs.declared.Answer.{Answer}
 use Rattle.answer.specs.Table.{accepted}
 use Rattle.answer.specs.Ends.{over}
 use Rattle.polys.specs.Parts.{IsParts}
-use Rattle.parts.specs.Split.{Buffers, joined, lengths}
+use Rattle.taking.specs.Joined.{joined, lengths}
+use Rattle.parts.specs.Split.{Buffers}
 
 -- the lists of these lengths that stand one after another
 unfoldable pub cut : List ℕ → List ℕ → List (List ℕ)

@@ -142,8 +142,8 @@ module _ (f : List ℕ) (y w : ℕ) (others : w ≡ without y (vars f)) where
 
 module _ (f : List ℕ) (y w : ℕ) (inside outside : List ℕ) (p : Picks f y w inside outside) where
   -- no difference
-  pub brings-none : f ≡ times inside outside → Brings f y 0
-  brings-none e = record { belongs = belongs-none f y; closed = λ z. closed-if-same f y w inside outside p e }
+  pub brings-none : (r : ℕ) → r ≡ 0 → f ≡ times inside outside → Brings f y r
+  brings-none r is e = rw is (record { belongs = belongs-none f y; closed = λ z. closed-if-same f y w inside outside p e })
 
   -- a term of the product that f lacks
   module _ (u : ℕ) (m : Mem (times inside outside) u) (n : ¬ Mem f u) where
@@ -163,10 +163,13 @@ module _ (f : List ℕ) (y w : ℕ) (inside outside : List ℕ) (p : Picks f y w
               (least-none f y w (p .others) u u (h .1 .0) r (h .1 .1) (h .1 .2) least e)));
         }
 
-  -- a term of f that the product lacks: with the first term on the one side,
-  module _ (u : ℕ) (m : Mem f u) (n : ¬ Mem (times inside outside) u) (d : ℕ) (one : Least f y w u (first f) d) where
+  -- a term of f that the product lacks: with the first term v on the one side,
+  module _ (u : ℕ) (m : Mem f u) (n : ¬ Mem (times inside outside) u) (v d : ℕ) (is : v ≡ first f) (found : Least f y w u v d) where
     first-term : Mem f (first f)
     first-term = first-is-picked-from f y w inside outside p
+
+    one : Least f y w u (first f) d
+    one = subst (λ (t : ℕ). Least f y w u t d) is found
 
     pub brings-if-extra : ¬ (d ≡ 0) → Brings f y d
     brings-if-extra some =
@@ -176,8 +179,9 @@ module _ (f : List ℕ) (y w : ℕ) (inside outside : List ℕ) (p : Picks f y w
         }
 
     -- or on the other
-    pub brings-on-the-other-side : d ≡ 0 → (r : ℕ) → Least f y w (first f) u r → Brings f y r
-    brings-on-the-other-side none r other =
+    pub brings-on-the-other-side : d ≡ 0 → (r : ℕ) → Least f y w v u r → Brings f y r
+    brings-on-the-other-side none r found' =
+        let other = subst (λ (s : ℕ). Least f y w s u r) is found' in
         record {
           belongs = least-belongs f y w (p .others) (first f) u u r m refl other;
           closed = λ e.

@@ -3,11 +3,14 @@
 use Prim.Native.Nat.{ℕ, _+_, _≤_, _<_}
 use mathlib.Core.Path.{_≡_, refl, sym, ap, ap₂, _∙_, subst}
 use mathlib.Core.List.{List, [], _∷_, _++_}
-use mathlib.Core.Logic.{_⊎_, ⊎-elim}
+use mathlib.Core.Bool.{Bool, true, false}
+use mathlib.Core.Logic.{_⊎_, inl, inr, ⊎-elim}
 use native.Mathlib.Omega.{arith}
 use native.Mathlib.Nat.{add-assoc, add-zero}
 use native.Mathlib.Numerals.{add-one}
+use borrow.Author.Tests.{eqb-true, eqb-false}
 use lib.Bits.{bitAnd}
+use lib.Dec.{eqb}
 use lib.ListN.{length, getD, take, drop, set, length-set, length-append, length-drop}
 use lib.Seq.{getD-take, length-take-le, take-length, take-all, take-suc, take-set-le, drop-set-lt, drop-set-add, take-suc-set}
 use Rattle.splitting.specs.Mix.{pick}
@@ -83,12 +86,12 @@ laying-none start n y w on off =
     record { list = refl; long = refl; inner = half-none n y w off (take n start) start; outer = half-none (n + n) w y on (take n start) start }
 
 -- one term more
-pub laying-more : (start : List ℕ) (n y w on off : ℕ) (work : List ℕ) (part rest i part' rest' : ℕ) → i < n → n + (n + n) ≤ length start
+laying-on : (start : List ℕ) (n y w on off : ℕ) (work : List ℕ) (part rest i part' rest' : ℕ) → i < n → n + (n + n) ≤ length start
     → Laying start n y w on off work part rest i
     → ((bitAnd (getD work i 0) w ≡ off) × (part' ≡ part + 1)) ⊎ ((bitAnd (getD work i 0) w ≡ off → ⊥) × (part' ≡ part))
     → ((bitAnd (getD work i 0) y ≡ on) × (rest' ≡ rest + 1)) ⊎ ((bitAnd (getD work i 0) y ≡ on → ⊥) × (rest' ≡ rest))
     → Laying start n y w on off (set (set work (n + part) (bitAnd (getD work i 0) y)) (n + n + rest) (bitAnd (getD work i 0) w)) part' rest' (i + 1)
-laying-more start n y w on off work part rest i part' rest' here room l came-part came-rest =
+laying-on start n y w on off work part rest i part' rest' here room l came-part came-rest =
     let t = getD work i 0 in
     let one = set work (n + part) (bitAnd t y) in
     let front : length (take n start) ≡ n = length-take-le n start (omega arith) in
@@ -106,6 +109,28 @@ laying-more start n y w on off work part rest i part' rest' here room l came-par
           (half-kept-behind n y w off (take n start) one part' (i + 1) inside (n + rest) (bitAnd t w) (omega (arith, inside .few)));
       outer = half-step (n + n) w y on (take n start) one rest i kept t rest' within (omega (arith, l .outer .few, one-long)) same came-rest;
     }
+
+-- as the test p says of the number m
+asked : (u v m k k' : ℕ) (p : Bool) → m ≡ u → p ≡ eqb m v → ((p ≡ true) × (k' ≡ k + 1)) ⊎ ((p ≡ false) × (k' ≡ k))
+    → ((u ≡ v) × (k' ≡ k + 1)) ⊎ ((u ≡ v → ⊥) × (k' ≡ k))
+asked u v m k k' p is test (inl e) = inl (sym is ∙ eqb-true m v (sym test ∙ e .0), e .1)
+asked u v m k k' p is test (inr e) = inr ((λ q. eqb-false m v (sym test ∙ e .0) (is ∙ q)), e .1)
+
+-- as the words are written one after the other, and by the tests p and q
+pub laying-more : (start : List ℕ) (n y w on off : ℕ) (work one both : List ℕ) (part rest i part' rest' t a b : ℕ) (p q : Bool)
+    → i < n → n + (n + n) ≤ length start → Laying start n y w on off work part rest i → t ≡ getD work i 0 → a ≡ bitAnd t y → b ≡ bitAnd t w
+    → one ≡ set work (n + part) a → both ≡ set one (n + n + rest) b → p ≡ eqb b off → q ≡ eqb a on
+    → ((p ≡ true) × (part' ≡ part + 1)) ⊎ ((p ≡ false) × (part' ≡ part))
+    → ((q ≡ true) × (rest' ≡ rest + 1)) ⊎ ((q ≡ false) × (rest' ≡ rest))
+    → Laying start n y w on off both part' rest' (i + 1)
+laying-more start n y w on off work one both part rest i part' rest' t a b p q here room l is is-a is-b first second test test' came came' =
+    subst (λ (g : List ℕ). Laying start n y w on off g part' rest' (i + 1)) (sym written)
+    (laying-on start n y w on off work part rest i part' rest' here room l
+    (asked (bitAnd (getD work i 0) w) off b part part' p (is-b ∙ ap (λ (u : ℕ). bitAnd u w) is) test came)
+    (asked (bitAnd (getD work i 0) y) on a rest rest' q (is-a ∙ ap (λ (u : ℕ). bitAnd u y) is) test' came'))
+  where
+    written : both ≡ set (set work (n + part) (bitAnd (getD work i 0) y)) (n + n + rest) (bitAnd (getD work i 0) w)
+    written = cc
 
 -- all terms: the list is laid out
 pub laid-out : (start : List ℕ) (n y w on off : ℕ) (work : List ℕ) (part rest i : ℕ) → 0 < n → n + (n + n) ≤ length start → i ≡ n
@@ -129,7 +154,7 @@ laid-out start n y w on off work part rest i some room all is-on is-off l =
 
 -- ---- the whole list, behind itself
 
--- after the first i words
+-- after the first i terms
 pub record Copying (start : List ℕ) (n : ℕ) (work : List ℕ) (i : ℕ) : Type 0 where
   pub list : take n work ≡ take n start
   pub long : length work ≡ length start
@@ -138,11 +163,11 @@ pub record Copying (start : List ℕ) (n : ℕ) (work : List ℕ) (i : ℕ) : Ty
 pub copying-none : (start : List ℕ) (n : ℕ) → Copying start n start 0
 copying-none start n = record { list = refl; long = refl; inner = refl }
 
-pub copying-more : (start : List ℕ) (n : ℕ) (work : List ℕ) (i : ℕ) → i < n → n + (n + n) ≤ length start → Copying start n work i
-    → Copying start n (set work (n + i) (getD work i 0)) (i + 1)
-copying-more start n work i here room c =
-    let t = getD work i 0 in
-    let same : t ≡ getD (take n start) i 0 = sym (getD-take n work i 0 here) ∙ ap (λ (g : List ℕ). getD g i 0) (c .list) in
+pub copying-more : (start : List ℕ) (n : ℕ) (work after : List ℕ) (i t : ℕ) → i < n → n + (n + n) ≤ length start → Copying start n work i
+    → t ≡ getD work i 0 → after ≡ set work (n + i) t → Copying start n after (i + 1)
+copying-more start n work after i t here room c is written =
+    rw written (
+    let same : t ≡ getD (take n start) i 0 = is ∙ sym (getD-take n work i 0 here) ∙ ap (λ (g : List ℕ). getD g i 0) (c .list) in
     let front : length (take n start) ≡ n = length-take-le n start (omega arith) in
     record {
       list = take-set-le n work (n + i) t (omega arith) ∙ c .list;
@@ -152,11 +177,13 @@ copying-more start n work i here room c =
           ∙ ap₂ (λ (g : List ℕ) (v : ℕ). g ++ (v ∷ [])) (c .inner) same
           ∙ sym (ap (λ (k : ℕ). take k (take n start)) (add-one i) ∙ take-suc (take n start) i 0 (omega arith));
     }
+    )
 
--- all words, and the term 1 behind them
-pub laid-whole : (start : List ℕ) (n : ℕ) (work : List ℕ) (i : ℕ) → 0 < n → n + (n + n) ≤ length start → i ≡ n → Copying start n work i
-    → LaidWhole (take n start) n (set work (n + n) 0) n 1
-laid-whole start n work i some room all c =
+-- all terms, and the term 1 behind them
+pub laid-whole : (start : List ℕ) (n : ℕ) (work after : List ℕ) (i z : ℕ) → 0 < n → n + (n + n) ≤ length start → i ≡ n → Copying start n work i
+    → z ≡ 0 → after ≡ set work (n + n) z → LaidWhole (take n start) n after n 1
+laid-whole start n work after i z some room all c none written =
+    rw (written, none) (
     let front : length (take n start) ≡ n = length-take-le n start (omega arith) in
     let whole : take n (take n start) ≡ take n start = take-all n (take n start) (omega arith) in
     record {
@@ -170,3 +197,4 @@ laid-whole start n work i some room all c =
       part-count = refl;
       rest-count = refl;
     }
+    )

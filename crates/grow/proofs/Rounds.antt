@@ -16,9 +16,7 @@ use Rattle.polys.specs.List.{Asc}
 use Rattle.polys.specs.Poly.{vars}
 use Rattle.splitting.proofs.Growing.{Growing, growing-start}
 use Rattle.counts.specs.Planes.{Tallied}
-use Rattle.grow.specs.declared.Step.{Step}
-use Rattle.grow.specs.declared.Step.the-variants.{Whole, Grow}
-use Rattle.grow.specs.Steps.{Ready, Stepped, Belongs, Stands, PartOfLowest}
+use Rattle.grow.specs.Steps.{Ready, StepWhole, StepMore, Belongs, Stands, PartOfLowest}
 
 -- with what belongs to y it goes on holding the lowest variable, within the variables of f
 belongs-on : (f : List ℕ) (i y more : ℕ) → Growing f i y → Belongs f y more → Growing f i (bitOr y more)
@@ -36,39 +34,27 @@ belongs-up f y more m some =
     let sum : bitOr y more ≡ y + more = or-disjoint y more (apart-sym more y (m .outside)) in
     omega arith
 
--- the list as a call is lent it
-lent : (work : List ℕ) (n : ℕ) → take (n - 0) work ≡ take n work
-lent work n = let whole : n - 0 ≡ n = omega arith in ap (λ (k : ℕ). take k work) whole
-
--- it is short enough to be counted, and stays what was counted
-pub ready-to-tally : (work : List ℕ) (n all : ℕ) → Ready (take n work) work n 0 all → length (take (n - 0) work) ≤ 65535
-ready-to-tally work n all ready =
-    omega (arith, ap length (lent work n), length-take-le n work (omega (arith, ready .room)), ready .short)
+-- the list is short enough to be counted, and stays what was counted
+pub ready-to-tally : (work : List ℕ) (n all : ℕ) → Ready (take n work) work n 0 all → (f : List ℕ) → f ≡ take n work → length f ≤ 65535
+ready-to-tally work n all ready f lent = omega (arith, ap length lent, length-take-le n work (omega (arith, ready .room)), ready .short)
 
 pub still-tallied : (start work alone : List ℕ) (n : ℕ) → take n work ≡ take n start → Tallied (take n start) alone → Tallied (take n work) alone
 still-tallied start work alone n same = subst (λ (f : List ℕ). Tallied f alone) (sym same)
 
-pub tallied-as-lent : (work alone : List ℕ) (n : ℕ) → Tallied (take (n - 0) work) alone → Tallied (take n work) alone
-tallied-as-lent work alone n = subst (λ (f : List ℕ). Tallied f alone) (lent work n)
-
 module _ (work : List ℕ) (n all : ℕ) (ready : Ready (take n work) work n 0 all) (pos : 0 < all) (x : ℕ) (is : x ≡ low all) where
   -- the lowest variable is asked about by counting,
-  pub ready-to-count : (alone : List ℕ) → Tallied (take n work) alone
-      → Asc (take (n - 0) work) × Tallied (take (n - 0) work) alone × (without x all ≡ without x (vars (take (n - 0) work))) × (bitAnd x x ≡ x)
-  ready-to-count alone tallied = (
-    subst Asc (sym (lent work n)) (ready .ascends),
-    subst (λ (f : List ℕ). Tallied f alone) (sym (lent work n)) tallied,
-    ap (without x) (ready .variables ∙ ap vars (sym (lent work n))),
-    and-self x,
-  )
+  pub ready-to-count : (w : ℕ) (alone : List ℕ) → Tallied (take n work) alone → w ≡ without x all
+      → (n ≤ length work) × Asc (take n work) × Tallied (take n work) alone × (w ≡ without x (vars (take n work))) × (bitAnd x x ≡ x)
+  ready-to-count w alone tallied others =
+      (omega (arith, ready .room), ready .ascends, tallied, others ∙ ap (without x) (ready .variables), and-self x)
 
   -- and before the first round y is what belongs to it
-  pub first-round : (more : ℕ) → Belongs (take (n - 0) work) x more → (i : ℕ) × Growing (take n work) i (bitOr x more)
-  first-round more b =
+  pub first-round : (more y : ℕ) → Belongs (take n work) x more → y ≡ bitOr x more → (i : ℕ) × Growing (take n work) i y
+  first-round more y b joined =
       let g = growing-start (take n work) (λ e. absurd (no-more (ready .variables ∙ e))) in (
         g .0,
-        belongs-on (take n work) (g .0) x more (subst (Growing (take n work) (g .0)) (sym (is ∙ ap low (ready .variables))) (g .1))
-            (subst (λ (l : List ℕ). Belongs l x more) (lent work n) b),
+        subst (Growing (take n work) (g .0)) (sym joined)
+            (belongs-on (take n work) (g .0) x more (subst (Growing (take n work) (g .0)) (sym (is ∙ ap low (ready .variables))) (g .1)) b),
       )
     where
       no-more : all ≡ 0 → ⊥
@@ -89,21 +75,22 @@ module _ (start work : List ℕ) (n all y i : ℕ) (ready : Ready (take n start)
         inside = ap (bitAnd y) (ready .variables) ∙ growing .within;
       })
 
-  module _ (after : List ℕ) (made : Step) (ended : Stepped (take n work) n y after made) where
-    stepped : Stepped (take n start) n y after made
-    stepped = subst (λ (f : List ℕ). Stepped f n y after made) same ended
-
+  module _ (after : List ℕ) where
     -- the step ends with the whole part
-    pub ends-whole : (part rest : ℕ) → made ≡ Whole part rest
+    pub ends-whole : (part rest : ℕ) → StepWhole (take n work) n y after part rest
         → (take n after ≡ take n start) × PartOfLowest (take n start) y × Stands (take n start) n y after part rest
-    ends-whole part rest e =
-        let s : Stepped (take n start) n y after (Whole part rest) = subst (Stepped (take n start) n y after) e stepped in
+    ends-whole part rest ended =
+        let s = subst (λ (f : List ℕ). StepWhole f n y after part rest) same ended in
         (s .0, record { inside = growing .within; closed = s .1; lowest = (i, growing .holds, growing .lowest, growing .forced) }, s .2)
 
     -- the step ends with more variables
-    pub ends-growing : (more : ℕ) → made ≡ Grow more
-        → (take n after ≡ take n start) × Growing (take n start) i (bitOr y more) × (y < bitOr y more) × (bitOr y more ≤ all)
-    ends-growing more e =
-        let s : Stepped (take n start) n y after (Grow more) = subst (Stepped (take n start) n y after) e stepped in
-        let on : Growing (take n start) i (bitOr y more) = belongs-on (take n start) i y more growing (s .1) in
-        (s .0, on, belongs-up (take n start) y more (s .1) (s .2), subst (λ (v : ℕ). bitOr y more ≤ v) (sym (ready .variables)) (subset-le (bitOr y more) (vars (take n start)) (on .within)))
+    pub ends-growing : (more z : ℕ) → StepMore (take n work) n y after more → z ≡ bitOr y more
+        → (take n after ≡ take n start) × Growing (take n start) i z × (y < z) × (z ≤ all)
+    ends-growing more z ended joined =
+        let s = subst (λ (f : List ℕ). StepMore f n y after more) same ended in
+        let on = subst (Growing (take n start) i) (sym joined) (belongs-on (take n start) i y more growing (s .1)) in (
+          s .0,
+          on,
+          subst (λ (v : ℕ). y < v) (sym joined) (belongs-up (take n start) y more (s .1) (s .2)),
+          subst (λ (v : ℕ). z ≤ v) (sym (ready .variables)) (subset-le z (vars (take n start)) (on .within)),
+        )

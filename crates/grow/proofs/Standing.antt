@@ -1,6 +1,6 @@
 -- What stands in the work area: the list, and what was picked from it, as the calls are lent it; where y is closed, the two picks are the
 -- two projections. Leans on the theory of picking.
-use Prim.Native.Nat.{ℕ, _+_, _-_}
+use Prim.Native.Nat.{ℕ, _+_, _-_, _≤_}
 use mathlib.Core.Path.{_≡_, sym, ap, ap₂, _∙_, subst}
 use mathlib.Core.List.{List, [], _∷_}
 use native.Mathlib.Omega.{arith}
@@ -20,7 +20,7 @@ use Rattle.splitting.proofs.Image.{onto-inside, off-inside}
 use Rattle.splitting.proofs.Mixing.{closed-vars}
 use Rattle.splitting.proofs.Picks.{inner, outer, onto-is-inner, off-is-outer}
 use Rattle.counts.specs.Planes.{Tallied}
-use Rattle.grow.specs.Steps.{first, Picks, Laid, LaidWhole, Stands, Ready, Belongs, Brings}
+use Rattle.grow.specs.Steps.{first, Picks, Laid, LaidWhole, Stands, Ready, Belongs, Brings, StepWhole, StepMore}
 use Rattle.grow.proofs.Bringing.{belongs-both}
 
 module _ (f : List ℕ) (y w : ℕ) (others : w ≡ without y (vars f)) (mf : Mem f (first f)) where
@@ -47,76 +47,80 @@ module _ (f : List ℕ) (y w : ℕ) (others : w ≡ without y (vars f)) (mf : Me
         rest-fits = l .rest-fits;
       }
 
-module _ (work : List ℕ) (n y all : ℕ) (ready : Ready (take n work) work n y all) (after : List ℕ) (part rest : ℕ)
-    (laid : Laid (take n work) n y (without y all) after part rest) where
-  ready-others : without y all ≡ without y (vars (take n work))
-  ready-others = ap (without y) (ready .variables)
+module _ (work : List ℕ) (n y all w : ℕ) (is : w ≡ without y all) (ready : Ready (take n work) work n y all) (after : List ℕ) (part rest : ℕ)
+    (laid : Laid (take n work) n y w after part rest) where
+  ready-others : w ≡ without y (vars (take n work))
+  ready-others = is ∙ ap (without y) (ready .variables)
 
   ready-first : Mem (take n work) (first (take n work))
   ready-first = mem-at (take n work) 0 (omega (arith, length-take-le n work (omega (arith, ready .room)), ready .some))
 
-  -- the list as a call is lent it
-  pub lent-front : take (n - 0) after ≡ take n work
-  lent-front =
-      let whole : n - 0 ≡ n = omega arith in
-      ap (λ (k : ℕ). take k after) whole ∙ laid .list
-
-  -- and what was picked from it
-  pub picks-as-lent : Picks (take (n - 0) after) y (without y all) (take (n + part - n) (drop n after)) (take (n + n + rest - (n + n)) (drop (n + n) after))
-  picks-as-lent =
-      let inside : n + part - n ≡ part = omega arith in
-      let outside : n + n + rest - (n + n) ≡ rest = omega arith in
-      subst (λ (g : List ℕ). Picks g y (without y all) (take (n + part - n) (drop n after)) (take (n + n + rest - (n + n)) (drop (n + n) after)))
-      (sym lent-front)
+  -- what was picked from it
+  picks : Picks (take n after) y w (take part (drop n after)) (take rest (drop (n + n) after))
+  picks =
+      subst (λ (g : List ℕ). Picks g y w (take part (drop n after)) (take rest (drop (n + n) after))) (sym (laid .list))
       (record {
         ascends = ready .ascends;
         some = omega (arith, length-take-le n work (omega (arith, ready .room)), ready .some);
         others = ready-others;
-        inner = ap (λ (k : ℕ). take k (drop n after)) inside ∙ laid .inner;
-        outer = ap (λ (k : ℕ). take k (drop (n + n) after)) outside ∙ laid .outer;
+        inner = laid .inner;
+        outer = laid .outer;
       })
 
-  -- y is closed: the step ends with the whole part
-  whole-part : Closed y (take n work) → (take n after ≡ take n work) × Closed y (take n work) × Stands (take n work) n y after part rest
-  whole-part closed =
-      (laid .list, closed, projections-stand (take n work) y (without y all) ready-others ready-first (ready .ascends) closed n after part rest laid)
+  pub picks-stand : length after ≡ length work
+      → Picks (take n after) y w (take part (drop n after)) (take rest (drop (n + n) after)) × (n + part ≤ length after) × (n + n + rest ≤ length after)
+  picks-stand long = (picks, omega (arith, laid .part-fits, ready .room), omega (arith, laid .rest-fits, ready .room))
 
-  -- it is where a difference brings nothing
-  pub whole-if-none : (d : ℕ) → Brings (take (n - 0) after) y d → d ≡ 0 → (take n after ≡ take n work) × Closed y (take n work) × Stands (take n work) n y after part rest
-  whole-if-none d b e = whole-part (subst (Closed y) lent-front (b .closed e))
+  -- y is closed: the step ends with the whole part, where a difference brings nothing
+  pub whole-if-none : (d : ℕ) → Brings (take n after) y d → d ≡ 0 → StepWhole (take n work) n y after part rest
+  whole-if-none d b e =
+      let closed = subst (Closed y) (laid .list) (b .closed e) in
+      (laid .list, closed, projections-stand (take n work) y w ready-others ready-first (ready .ascends) closed n after part rest laid)
 
   -- what it brings is asked about by counting,
-  pub ready-to-count : (d x : ℕ) (alone : List ℕ) → Tallied (take n work) alone → Brings (take (n - 0) after) y d → x ≡ low d
-      → Asc (take (n - 0) after) × Tallied (take (n - 0) after) alone × (without d (without y all) ≡ without (bitOr y d) (vars (take (n - 0) after))) × (bitAnd x (bitOr y d) ≡ x)
-  ready-to-count d x alone tallied b is = (
-    picks-as-lent .ascends,
-    subst (λ (f : List ℕ). Tallied f alone) (sym lent-front) tallied,
-    ap (without d) (picks-as-lent .others) ∙ both d y (vars (take (n - 0) after)),
-    lowest-inside d (d - 1) y x is,
+  pub ready-to-count : (d x y' w' : ℕ) (alone : List ℕ) → length after ≡ length work → Tallied (take n work) alone → x ≡ low d → y' ≡ bitOr y d
+      → w' ≡ without d w
+      → (n ≤ length after) × Asc (take n after) × Tallied (take n after) alone × (w' ≡ without y' (vars (take n after))) × (bitAnd x y' ≡ x)
+  ready-to-count d x y' w' alone long tallied lowest more less = (
+    omega (arith, ready .room),
+    picks .ascends,
+    subst (λ (f : List ℕ). Tallied f alone) (sym (laid .list)) tallied,
+    both d y y' w w' (vars (take n after)) (picks .others) more less,
+    lowest-inside d (d - 1) y y' x lowest more,
   )
     where
-      both : (d y v : ℕ) → without d (without y v) ≡ without (bitOr y d) v
-      both = identity 3 (λ d y v. ∴ (v ∖ y) ∖ d ≐ v ∖ (y ∪ d)) tt
+      both : (d y y' w w' v : ℕ) → w ≡ without y v → y' ≡ bitOr y d → w' ≡ without d w → w' ≡ without y' v
+      both = identity 6 (λ d y y' w w' v. w ≐ v ∖ y ⇒ y' ≐ y ∪ d ⇒ w' ≐ w ∖ d ⇒ ∴ w' ≐ v ∖ y') tt
 
-      lowest-inside : (d k y x : ℕ) → x ≡ without k d → bitAnd x (bitOr y d) ≡ x
-      lowest-inside = identity 4 (λ d k y x. x ≐ d ∖ k ⇒ ∴ x ⊆ y ∪ d) tt
+      lowest-inside : (d k y y' x : ℕ) → x ≡ without k d → y' ≡ bitOr y d → bitAnd x y' ≡ x
+      lowest-inside = identity 5 (λ d k y y' x. x ≐ d ∖ k ⇒ y' ≐ y ∪ d ⇒ ∴ x ⊆ y') tt
 
   -- and the step ends with both
-  pub grows-as-said : (d more : ℕ) → Brings (take (n - 0) after) y d → ¬ (d ≡ 0) → Belongs (take (n - 0) after) (bitOr y d) more
-      → (take n after ≡ take n work) × Belongs (take n work) y (bitOr d more) × ¬ (bitOr d more ≡ 0)
-  grows-as-said d more b some m = (
+  pub grows-as-said : (d y' more r : ℕ) → Brings (take n after) y d → ¬ (d ≡ 0) → y' ≡ bitOr y d → Belongs (take n after) y' more
+      → r ≡ bitOr d more → StepMore (take n work) n y after r
+  grows-as-said d y' more r b some joined m all-of = (
     laid .list,
-    subst (λ (l : List ℕ). Belongs l y (bitOr d more)) lent-front (belongs-both (take (n - 0) after) y d more (b .belongs) m),
-    (λ e. some (left-none d more e)),
+    subst (λ (l : List ℕ). Belongs l y r) (laid .list)
+        (subst (Belongs (take n after) y) (sym all-of)
+        (belongs-both (take n after) y d more (b .belongs) (subst (λ (z : ℕ). Belongs (take n after) z more) joined m))),
+    (λ e. some (left-none d more r all-of e)),
   )
     where
-      left-none : (d m : ℕ) → bitOr d m ≡ 0 → d ≡ 0
-      left-none = identity 2 (λ d m. d ∪ m ≐ ∅ ⇒ ∴ d ≐ ∅) tt
+      left-none : (d m r : ℕ) → r ≡ bitOr d m → r ≡ 0 → d ≡ 0
+      left-none = identity 3 (λ d m r. r ≐ d ∪ m ⇒ r ≐ ∅ ⇒ ∴ d ≐ ∅) tt
+
+-- the list and its picks as a call is lent them, and what that says
+pub picks-as-lent : (l : List ℕ) (n part rest y w : ℕ) (f inside outside : List ℕ) → f ≡ take n l → inside ≡ take (n + part - n) (drop n l)
+    → outside ≡ take (n + n + rest - (n + n)) (drop (n + n) l) → Picks (take n l) y w (take part (drop n l)) (take rest (drop (n + n) l))
+    → Picks f y w inside outside
+picks-as-lent l n part rest y w f inside outside front in-part out-part p =
+    let inner : n + part - n ≡ part = omega arith in
+    let outer : n + n + rest - (n + n) ≡ rest = omega arith in
+    rw (front, in-part ∙ ap (λ (k : ℕ). take k (drop n l)) inner, out-part ∙ ap (λ (k : ℕ). take k (drop (n + n) l)) outer) p
 
 -- all variables are closed: the whole list is the part
 pub whole-list : (work : List ℕ) (n y all : ℕ) → Ready (take n work) work n y all → y ≡ all → (after : List ℕ) (part rest : ℕ)
-    → LaidWhole (take n work) n after part rest
-    → (take n after ≡ take n work) × Closed y (take n work) × Stands (take n work) n y after part rest
+    → LaidWhole (take n work) n after part rest → StepWhole (take n work) n y after part rest
 whole-list work n y all ready e after part rest l =
     let f = take n work in
     let same : y ≡ vars f = e ∙ ready .variables in

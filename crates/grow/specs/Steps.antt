@@ -12,8 +12,6 @@ use Rattle.polys.specs.List.{Asc}
 use Rattle.polys.specs.Poly.{vars, onto, off}
 use Rattle.splitting.specs.Mix.{Closed, pick}
 use Rattle.splitting.proofs.Forced.{Forced}
-use Rattle.grow.specs.declared.Step.{Step}
-use Rattle.grow.specs.declared.Step.the-variants.{Whole, Grow}
 
 -- where u and t differ on w
 abbrev pub differs : ℕ → ℕ → ℕ → ℕ
@@ -41,7 +39,7 @@ pub record Picks (f : List ℕ) (y w : ℕ) (inside outside : List ℕ) : Type 0
   pub inner : inside ≡ pick y w (bitAnd (first f) w) f
   pub outer : outside ≡ pick w y (bitAnd (first f) y) f
 
--- a list f, not too long to be counted, stands in the first n words of the work area, which has room for three of its length; y are some of
+-- a list f, not too long to be counted, is the first n terms of the work area, which has room for three of its length; y are some of
 -- its variables
 pub record Ready (f : List ℕ) (work : List ℕ) (n y all : ℕ) : Type 0 where
   pub list : take n work ≡ f
@@ -52,7 +50,7 @@ pub record Ready (f : List ℕ) (work : List ℕ) (n y all : ℕ) : Type 0 where
   pub variables : all ≡ vars f
   pub inside : bitAnd y all ≡ y
 
--- the list still stands in the first n words, with the picked terms behind it
+-- the list is still the first n terms, with the picked terms behind it
 pub record Laid (f : List ℕ) (n y w : ℕ) (work : List ℕ) (part rest : ℕ) : Type 0 where
   pub list : take n work ≡ f
   pub inner : take part (drop n work) ≡ pick y w (bitAnd (first f) w) f
@@ -62,7 +60,7 @@ pub record Laid (f : List ℕ) (n y w : ℕ) (work : List ℕ) (part rest : ℕ)
   pub part-fits : part ≤ n
   pub rest-fits : rest ≤ n
 
--- the list still stands in the first n words, with itself and the term 1 behind it
+-- the list is still the first n terms, with itself and the term 1 behind it
 pub record LaidWhole (f : List ℕ) (n : ℕ) (work : List ℕ) (part rest : ℕ) : Type 0 where
   pub list : take n work ≡ f
   pub inner : take part (drop n work) ≡ f
@@ -90,10 +88,13 @@ pub record Stands (f : List ℕ) (n y : ℕ) (work : List ℕ) (part rest : ℕ)
   pub part-fits : part ≤ n
   pub rest-fits : rest ≤ n
 
--- a step ends with a closed y and its projections laid out, or with more variables
-abbrev pub Stepped : List ℕ → ℕ → ℕ → List ℕ → Step → Type 0
-Stepped f n y work (Whole part rest) = (take n work ≡ f) × Closed y f × Stands f n y work part rest
-Stepped f n y work (Grow more) = (take n work ≡ f) × Belongs f y more × ¬ (more ≡ 0)
+-- a step ends with a closed y and its projections laid out,
+abbrev pub StepWhole : List ℕ → ℕ → ℕ → List ℕ → ℕ → ℕ → Type 0
+StepWhole f n y work part rest = (take n work ≡ f) × Closed y f × Stands f n y work part rest
+
+-- or with more variables
+abbrev pub StepMore : List ℕ → ℕ → ℕ → List ℕ → ℕ → Type 0
+StepMore f n y work more = (take n work ≡ f) × Belongs f y more × ¬ (more ≡ 0)
 
 -- y are the variables of the part of the lowest variable
 pub record PartOfLowest (f : List ℕ) (y : ℕ) : Type 0 where

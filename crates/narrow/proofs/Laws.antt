@@ -4,9 +4,9 @@ use mathlib.Core.Path.{_≡_, refl, ap, _∙_}
 use mathlib.Core.List.{List, _++_, append-nil}
 use Prim.Native.Nat.{ℕ, _+_, _-_, _^_, _≤_, _<_}
 use native.Mathlib.Nat.{le-of-eq, le-refl}
-use lib.ListN.{length, getD, take, drop, length-drop, drop-of-length-le}
+use lib.ListN.{length, getD, take, drop, replicate, length-drop, drop-of-length-le}
 use lib.Seq.{take-all, drop-length}
-use Rattle.narrow.specs.Numbers.{numbers, room, width, wordsOf}
+use Rattle.narrow.specs.Numbers.{numbers, room, lines, wordsOf}
 
 -- so many terms stand in the words that take so many
 pub numbers-length : (ws : List ℕ) (n : ℕ) → length ws ≡ room n → length (numbers ws) ≡ n
@@ -61,6 +61,10 @@ pub numbers-rest-lent : (a : ℕ) (ws : List ℕ)
     → numbers (take (length ws - room a) (drop (room a) ws)) ≡ take (length (numbers ws) - a) (drop a (numbers ws))
 numbers-rest-lent a ws = refl
 
+-- words that are all 0 hold the term 1 alone
+pub numbers-zeros : (n : ℕ) → numbers (replicate (room n) 0) ≡ replicate n 0
+numbers-zeros n = refl
+
 -- terms behind terms
 pub numbers-append : (k : ℕ) (xs ys : List ℕ) → length xs ≡ room k → numbers (xs ++ ys) ≡ numbers xs ++ numbers ys
 numbers-append k xs ys h = refl
@@ -83,8 +87,8 @@ numbers-rest-written a ws ys fits =
     ap (λ (l : List ℕ). take a ws ++ (ys ++ l)) (drop-of-length-le (drop a ws) (le-of-eq (length-drop a ws)))
     ∙ ap (λ (l : List ℕ). take a ws ++ l) (append-nil ys)
 
--- the terms in words have no variable beyond the width
-pub numbers-fit : (ws : List ℕ) → ((i : ℕ) → getD ws i 0 < 2 ^ 64) → (i : ℕ) → getD (numbers ws) i 0 < 2 ^ width
+-- the terms in words have no variable beyond the last
+pub numbers-fit : (ws : List ℕ) → ((i : ℕ) → getD ws i 0 < 2 ^ 64) → (i : ℕ) → getD (numbers ws) i 0 < 2 ^ lines
 numbers-fit ws f i = f i
 
 -- terms laid out in words are those terms

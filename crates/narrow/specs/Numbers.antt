@@ -15,9 +15,9 @@ numbers ws = ws
 abbrev pub room : ℕ → ℕ
 room n = n
 
--- how many variables there are
-abbrev pub width : ℕ
-width = 64
+-- how many variables there are: the input lines of a board
+abbrev pub lines : ℕ
+lines = 64
 
 -- terms laid out in words
 abbrev pub wordsOf : List ℕ → List ℕ

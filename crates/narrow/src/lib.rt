@@ -1,16 +1,26 @@
 // A term in one word, and lists of terms in words: the smaller of the two sizes. The larger one, two words to a term, has the same
 // names and the same contracts, so that whatever is written against the one is written against the other.
 ghost use mathlib.Core.Path.{_≡_};
-ghost use Prim.Native.Nat.{_-_, _<_, _^_};
+ghost use Prim.Native.Nat.{_+_, _-_, _*_, _%_, _^_, _≤_, _<_};
 ghost use lib.Bits.{bitAnd, bitOr, bitXor};
 ghost use lib.Dec.{ltb, eqb};
 ghost use lib.ListN.{length, getD, set};
-ghost use Rattle.masks.specs.Bit.{without};
-ghost use Rattle.narrow.specs.Numbers.{value, numbers, room};
+ghost use Rattle.digits.specs.Number.{bits};
+ghost use Rattle.digits.specs.Carry.{Put};
+ghost use Rattle.masks.specs.Bit.{bit, without};
+ghost use Rattle.masks.specs.Width.{width};
+ghost use Rattle.narrow.specs.Numbers.{value, numbers, room, lines};
 
 // A term: the set of its variables. A set of variables is written the same way.
 pub struct Term {
     pub bits: u64,
+}
+
+impl Term {
+    // A variable number is below this.
+    pub const LINES: usize = 64;
+    // How many words a term takes.
+    pub const WORDS: usize = 1;
 }
 
 // How many terms stand in the words.
@@ -49,6 +59,13 @@ pub fn none() -> Term
     ensures { λ r. ⌜ value r ≡ 0 ⌝ }
 {
     Term { bits: 0 }
+}
+
+// The set whose number is a word.
+pub fn of(word: u64) -> Term
+    ensures { λ r. ⌜ value r ≡ word ⌝ }
+{
+    Term { bits: word }
 }
 
 // The variables of either: the product of two terms that share none.
@@ -118,4 +135,51 @@ pub fn lowest(set: Term) -> Term
     Term {
         bits: set.bits ^ (set.bits & (set.bits - 1)),
     }
+}
+
+// Whether variable k is in t.
+pub fn holds(t: Term, k: u64) -> bool
+    requires { ⌜ k < lines ⌝ }
+    ensures { λ r. ⌜ r ≡ bit (value t) k ⌝ }
+{
+    (t.bits >> k) & 1 == 1
+}
+
+// The variables of t below k.
+pub fn low(t: Term, k: u64) -> Term
+    requires { ⌜ k ≤ lines ⌝ }
+    ensures { λ r. ⌜ value r ≡ value t % 2 ^ k ⌝ }
+{
+    if k < 64 {
+        return Term {
+            bits: t.bits & ((1 << k) - 1),
+        };
+    }
+    t
+}
+
+// One more than the highest variable, 0 for the empty set.
+pub fn top(set: Term) -> u64
+    ensures { λ r. ⌜ r ≡ width (value set) ⌝ }
+{
+    64 - (u64::leading_zeros(set.bits) as u64)
+}
+
+// The field of n bits at bit `at` of a row of bytes, as a term.
+pub fn field(bytes: &[u8], at: usize, n: usize) -> Term
+    requires { ⌜ (n ≤ lines) × (at + n < 2 ^ 64) × (at + n ≤ 8 * length (now bytes)) ⌝ }
+    ensures { λ r. ⌜ value r ≡ bits (now (bytes .entry)) at n ⌝ }
+{
+    Term {
+        bits: digits::field(bytes, at, n),
+    }
+}
+
+// Puts the n bits of a term behind the bits that stand before bit `at`. Those of them that fill no byte yet are lent as `carry`, and what
+// fills no byte afterwards comes back.
+pub fn put_field(out: &mut [u8], at: usize, carry: u64, t: Term, n: usize) -> u64
+    requires { ⌜ (carry < 2 ^ (at % 8)) × (value t < 2 ^ n) × (n ≤ lines) × (at + n < 2 ^ 64) × (at + n ≤ 8 * length (now out)) ⌝ }
+    ensures { λ r. ⌜ Put (now (out .entry)) at carry (value t) n (now (out .exit)) r ⌝ }
+{
+    digits::put(out, at, carry, t.bits, n)
 }

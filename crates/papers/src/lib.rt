@@ -87,7 +87,7 @@ fn lacks(list: &[u64], x: u64) -> bool
     ensures { λ r. ⌜ r ≡ not (bit (vars (now (list .entry))) x) ⌝ }
 {
     let own = TermList::of(list);
-    let all = own.vars;
+    let all = own.vars.bits;
     !occurs(all, x)
 }
 

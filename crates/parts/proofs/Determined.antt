@@ -8,7 +8,8 @@ use Rattle.answer.specs.declared.Answer.{Answer}
 use Rattle.answer.specs.Ends.{over}
 use Rattle.answer.proofs.Ends.{Determined, ends-coincide}
 use Rattle.unique.proofs.Same.{parts-are-unique}
-use Rattle.parts.specs.Split.{joined, lengths, Buffers, splitChecks, Splits, SplitEnds}
+use Rattle.taking.specs.Joined.{joined, lengths}
+use Rattle.parts.specs.Split.{Buffers, splitChecks, Splits, SplitEnds}
 
 -- acceptance leaves one count and one content of the buffers
 pub splits-once : (f : List ℕ) (old : Buffers) → Determined (Splits f old)

@@ -1,2 +1,1 @@
 pub mod Split
-pub mod Steps

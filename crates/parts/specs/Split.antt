@@ -1,22 +1,14 @@
 -- How split ends, for every list and all lent buffers (docs/RULES.md, 5.3 and 5.4). The limits are those of the term list and come in as numbers.
 use Prim.Native.Nat.{ℕ, _+_, _*_}
 use mathlib.Core.Path.{_≡_}
-use mathlib.Core.List.{List, [], _∷_, _++_, map}
+use mathlib.Core.List.{List, [], _∷_}
 use lib.Dec.{ltb, eqb}
 use lib.ListN.{length, replicate}
 use Rattle.answer.specs.declared.Answer.{Answer}
 use Rattle.answer.specs.Ends.{Check, check, Ends, over}
 use Rattle.polys.specs.Parts.{IsParts}
 use Rattle.terms.specs.Order.{unordered}
-
--- the parts one after another
-unfoldable pub joined : List (List ℕ) → List ℕ
-joined [] = []
-joined (p ∷ ps) = p ++ joined ps
-
--- their lengths, in order
-abbrev pub lengths : List (List ℕ) → List ℕ
-lengths ps = map length ps
+use Rattle.taking.specs.Joined.{joined, lengths}
 
 -- the three lent buffers: part terms, part lengths, work area
 pub record Buffers : Type 0 where

@@ -1,15 +1,16 @@
 -- What multiply's checks (specs/Multiply.antt) tell where they pass, and that the product is then written. Leans on terms' laws of order
 -- and polys' count of a product. Assumes nothing.
-use Prim.Native.Nat.{ℕ, zero, suc, _-_, _*_, _<_, _≤_}
-use native.Mathlib.Nat.{sub-zero, zero-mul, mul-zero}
+use Prim.Native.Nat.{ℕ, zero, suc, _*_, _<_, _≤_}
+use native.Mathlib.Nat.{zero-mul, mul-zero}
 use native.Mathlib.Omega.{arith}
-use mathlib.Core.Path.{_≡_, refl, sym, ap, ap₂, _∙_}
+use mathlib.Core.Path.{_≡_, refl, sym, ap, ap₂, subst, _∙_}
 use mathlib.Core.List.{List, [], _∷_, _++_}
 use borrow.Author.Tests.{ltb-false}
 use lib.ListN.{length, take, drop}
 use lib.Seq.{length-take-le}
 use Rattle.answer.specs.Ends.{over, Writes}
-use Rattle.answer.specs.Checked.{Passed}
+use Rattle.answer.specs.declared.Answer.{Answer}
+use Rattle.answer.specs.Checked.{Passed, Checked}
 use Rattle.answer.proofs.Checking.{equal-if-passed}
 use Rattle.polys.specs.List.{Asc}
 use Rattle.polys.specs.Poly.{vars, times, Apart}
@@ -50,19 +51,20 @@ module _ (most : ℕ) (a b out : List ℕ) (p : Passed (multiplyChecks most a b 
   pub count : length (times a b) ≡ length a * length b
   count = length-times a b first-ascends second-ascends apart
 
-  -- what `unions` asks
-  pub ready : 0 < length a * length b → Ready a b (length (take (length a * length b - 0) out))
-  ready h =
+  -- what `unions` asks of the room lent for so many terms
+  pub ready : (n : ℕ) → n ≡ length a * length b → 0 < n → (lent : List ℕ) → lent ≡ take n out → Ready a b (length lent)
+  ready n e h lent el =
+      let some : 0 < length a * length b = subst (λ (k : ℕ). 0 < k) e h in
       record {
         factors =
             record {
               first = first-ascends;
               second = second-ascends;
               apart = apart;
-              some-first = left-positive (length a) (length b) h;
-              some-second = right-positive (length a) (length b) h;
+              some-first = left-positive (length a) (length b) some;
+              some-second = right-positive (length a) (length b) some;
             };
-        fits = ap (λ (k : ℕ). length (take k out)) (sub-zero (length a * length b)) ∙ length-take-le (length a * length b) out fits;
+        fits = ap length el ∙ length-take-le n out (omega (arith, e, fits)) ∙ e;
       }
     where
       left-positive : (m n : ℕ) → 0 < m * n → 0 < m
@@ -74,15 +76,23 @@ module _ (most : ℕ) (a b out : List ℕ) (p : Passed (multiplyChecks most a b 
       right-positive m (suc n) h = omega arith
 
   -- the product written, where there is something to write,
-  pub product-written : (product : List ℕ) → product ≡ times a b
-      → Writes (times a b) out (length a * length b) (product ++ drop (length a * length b - 0) out)
-  product-written product e =
-      (sym count, ap₂ (λ (x : List ℕ) (k : ℕ). x ++ drop k out) e (sub-zero (length a * length b) ∙ sym count))
+  pub product-written : (n : ℕ) → n ≡ length a * length b → (product new : List ℕ) → product ≡ times a b → new ≡ product ++ drop n out
+      → Writes (times a b) out n new
+  product-written n e product new ep en =
+      let counted = e ∙ sym count in
+      (counted, en ∙ ap₂ (λ (x : List ℕ) (k : ℕ). x ++ drop k out) ep counted)
 
   -- and where there is nothing
-  pub nothing-written : length a * length b ≤ 0 → Writes (times a b) out (length a * length b) out
-  nothing-written h = (sym count, sym (ap (λ (x : List ℕ). over x out) (empty (times a b) (count ∙ (omega arith)))))
+  pub nothing-written : (n : ℕ) → n ≡ length a * length b → n ≤ 0 → Writes (times a b) out n out
+  nothing-written n e h =
+      let counted = e ∙ sym count in
+      (counted, sym (ap (λ (x : List ℕ). over x out) (empty (times a b) (sym counted ∙ (omega arith)))))
     where
       empty : (l : List ℕ) → length l ≡ 0 → l ≡ []
       empty [] e = refl
       empty (x ∷ l) e = absurd (let c : ⊥ = omega arith in c)
+
+-- the room that was counted is the room that was lent
+pub room-counted : (most : ℕ) (a b : List ℕ) (found room : ℕ) (answer : Answer) → found ≡ room
+    → Checked (multiplyChecks most a b found) answer → Checked (multiplyChecks most a b room) answer
+room-counted most a b found room answer e = subst (λ (n : ℕ). Checked (multiplyChecks most a b n) answer) e

@@ -7,15 +7,16 @@ ghost use Rattle.polys.specs.Poly.{times};
 ghost use Rattle.answer.specs.Table.{numbersOf};
 ghost use Rattle.answer.specs.Ends.{Writes};
 ghost use Rattle.answer.specs.Checked.{Passed, Checked};
+ghost use Rattle.narrow.specs.Numbers.{numbers};
 ghost use Rattle.product.specs.Multiply.{multiplyChecks, MultiplyEnds};
 use answer::Outcome;
 use terms::TermList;
 
-// The product of two polynomials that share no variable, into a lent room of as many words as it has terms.
+// The product of two polynomials that share no variable, into a lent room for as many terms as it has.
 pub fn multiply(a: &[u64], b: &[u64], out: &mut [u64]) -> Outcome
-    ensures { λ r. do ⌜ MultiplyEnds (← ⟦TermList::MAX_TERMS⟧ .entry) (now (a .entry)) (now (b .entry)) (now (out .entry)) (numbersOf r) (now (out .exit)) ⌝ }
+    ensures { λ r. do ⌜ MultiplyEnds (← ⟦TermList::MAX_TERMS⟧ .entry) (numbers (now (a .entry))) (numbers (now (b .entry))) (numbers (now (out .entry))) (numbersOf r) (numbers (now (out .exit))) ⌝ }
 {
-    let verdict = checks(a, b, out.len());
+    let verdict = checks(a, b, narrow::count(out));
     if answer::refuses(verdict) {
         return verdict;
     }
@@ -25,37 +26,39 @@ pub fn multiply(a: &[u64], b: &[u64], out: &mut [u64]) -> Outcome
 
 // What is refused, in the order of the rules.
 fn checks(a: &[u64], b: &[u64], room: usize) -> Outcome
-    ensures { λ r. do ⌜ Checked (multiplyChecks (← ⟦TermList::MAX_TERMS⟧ .entry) (now (a .entry)) (now (b .entry)) room) (numbersOf r) ⌝ }
+    ensures { λ r. do ⌜ Checked (multiplyChecks (← ⟦TermList::MAX_TERMS⟧ .entry) (numbers (now (a .entry))) (numbers (now (b .entry))) room) (numbersOf r) ⌝ }
 {
-    if TermList::MAX_TERMS < a.len() {
+    let m = narrow::count(a);
+    if TermList::MAX_TERMS < m {
         return Outcome::TooMany { operand: 1 };
     }
-    if TermList::MAX_TERMS < b.len() {
+    let n = narrow::count(b);
+    if TermList::MAX_TERMS < n {
         return Outcome::TooMany { operand: 2 };
     }
     let i = terms::first_unordered(a);
-    if i < a.len() {
+    if i < m {
         return Outcome::Order {
             operand: 1,
             place: i as u64,
         };
     }
     let j = terms::first_unordered(b);
-    if j < b.len() {
+    if j < n {
         return Outcome::Order {
             operand: 2,
             place: j as u64,
         };
     }
     let shared = terms::shared(a, b);
-    if shared != 0 {
+    if !narrow::empty(shared) {
         return Outcome::Shared;
     }
-    let n = product_count(a, b);
-    if TermList::MAX_TERMS < n {
+    let count = product_count(a, b);
+    if TermList::MAX_TERMS < count {
         return Outcome::TooLarge;
     }
-    if room < n {
+    if room < count {
         return Outcome::Room { operand: 0 };
     }
     Outcome::Done { count: 0 }
@@ -63,20 +66,21 @@ fn checks(a: &[u64], b: &[u64], room: usize) -> Outcome
 
 // How many terms the product of two lists within the limit has, where they share no variable.
 fn product_count(a: &[u64], b: &[u64]) -> usize
-    requires { do ⌜ (length (now a) ≤ (← ⟦TermList::MAX_TERMS⟧)) × (length (now b) ≤ (← ⟦TermList::MAX_TERMS⟧)) ⌝ }
-    ensures { λ r. ⌜ r ≡ length (now (a .entry)) * length (now (b .entry)) ⌝ }
+    requires { do ⌜ (length (numbers (now a)) ≤ (← ⟦TermList::MAX_TERMS⟧)) × (length (numbers (now b)) ≤ (← ⟦TermList::MAX_TERMS⟧)) ⌝ }
+    ensures { λ r. ⌜ r ≡ length (numbers (now (a .entry))) * length (numbers (now (b .entry))) ⌝ }
 {
-    a.len() * b.len()
+    narrow::count(a) * narrow::count(b)
 }
 
 // Writes the product of two lists that passed the checks, and counts its terms.
 fn write_product(a: &[u64], b: &[u64], out: &mut [u64]) -> usize
-    requires { do ⌜ Passed (multiplyChecks (← ⟦TermList::MAX_TERMS⟧) (now a) (now b) (length (now out))) ⌝ }
-    ensures { λ r. ⌜ Writes (times (now (a .entry)) (now (b .entry))) (now (out .entry)) r (now (out .exit)) ⌝ }
+    requires { do ⌜ Passed (multiplyChecks (← ⟦TermList::MAX_TERMS⟧) (numbers (now a)) (numbers (now b)) (length (numbers (now out)))) ⌝ }
+    ensures { λ r. ⌜ Writes (times (numbers (now (a .entry))) (numbers (now (b .entry)))) (numbers (now (out .entry))) r (numbers (now (out .exit))) ⌝ }
 {
-    let n = a.len() * b.len();
-    if 0 < n {
-        unions::unions(a, b, &mut out[0..n]);
+    let count = product_count(a, b);
+    if 0 < count {
+        let end = narrow::words(count);
+        unions::unions(a, b, &mut out[0..end]);
     }
-    n
+    count
 }

@@ -13,7 +13,8 @@ use Rattle.ring.specs.Run.{lacking, holding, Cut, Run, lows}
 use Rattle.ring.proofs.Domain.{cancel-right}
 use Rattle.ring.proofs.Series.{R, plus, times, laws}
 use Rattle.ring.proofs.Value.{join, odd, value, value-more, Equal}
-use Rattle.ring.proofs.Low.{bit-low, low-lacking, low-holding}
+use Rattle.masks.proofs.Low.{bit-low}
+use Rattle.ring.proofs.Low.{low-lacking, low-holding}
 use Rattle.ring.proofs.Runs.{AllBits, all-lacking, all-holding, run-nonzero}
 
 -- ---- what agrees below 2 ^ k has one value

@@ -9,12 +9,13 @@ use native.Mathlib.Omega.{arith}
 use lib.ListN.{length, getD, take, drop, length-append, List·getD-append}
 use lib.Seq.{getD-append-add, take-append-seam, drop-append-seam}
 use Rattle.masks.specs.Bit.{bit}
+use Rattle.masks.proofs.Low.{low-below}
 use Rattle.polys.specs.List.{either, Above, Asc}
 use Rattle.ring.specs.Run.{lacking, holding, Cut, Run, lows}
 use Rattle.ring.specs.Ends.{first, last}
 use Rattle.ring.proofs.Series.{R, nought}
 use Rattle.ring.proofs.Value.{odd, value}
-use Rattle.ring.proofs.Low.{low-lacking, low-holding, low-below}
+use Rattle.ring.proofs.Low.{low-lacking, low-holding}
 
 -- ---- lists whose terms agree on a variable
 

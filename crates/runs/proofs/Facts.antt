@@ -4,56 +4,43 @@ use mathlib.Core.Path.{_≡_, refl, sym, ap, _∙_, subst}
 use mathlib.Core.Bool.{Bool, true, false, true≢false, false≢true}
 use mathlib.Core.List.{List, [], _∷_}
 use mathlib.Core.Logic.{⊎-elim}
-use Prim.Native.Nat.{ℕ, zero, suc, _+_, _*_, _-_, _/_, _%_, _^_, _≤_, _<_}
-use native.Mathlib.Nat.{not-suc-le-zero, le-of-suc-le-suc, div-eq-of-lt-le, pow-suc, one-mul, mod-eq-of-lt}
+use Prim.Native.Nat.{ℕ, zero, suc, _+_, _*_, _%_, _^_, _≤_, _<_}
+use native.Mathlib.Nat.{not-suc-le-zero, le-of-suc-le-suc, div-eq-of-lt-le, pow-suc, one-mul}
 use native.Mathlib.Decide.{decLt}
 use native.Mathlib.Omega.{arith}
-use lib.Bits.{bitAnd, and-mask}
-use lib.Pow.{pow-pos, shl-exact}
 use lib.Dec.{eqb}
 use lib.ListN.{length, getD, length-map}
 use lib.Seq.{ext-getD}
-use borrow.Author.Tests.{eq-eqb, ne-eqb}
 use Rattle.masks.specs.Bit.{bit}
 use Rattle.masks.proofs.Bits.{bits-above-vanish, bit-zero, zero-from-bits}
-use Rattle.terms.specs.Width.{width}
-use Rattle.terms.proofs.Width.{Bounds, width-bounds, width-le}
+use Rattle.masks.specs.Width.{width}
+use Rattle.masks.proofs.Width.{Bounds, width-bounds, width-le}
 use Rattle.ring.specs.Run.{lacking, Cut, lows}
 use Rattle.ring.specs.Ends.{imbalance}
 use Rattle.ring.specs.Lone.{Even, Matched}
 use Rattle.ring.proofs.Skip.{balanced-at, unbalanced-at}
-use Rattle.ring.proofs.Low.{bit-at, bit-low, low-below}
+use Rattle.masks.proofs.Low.{bit-at, bit-low, low-below}
 use Rattle.ring.proofs.Runs.{before-cut, from-cut, cut-within}
 use Rattle.runs.specs.Read.{Within, Left, shape, Pairing}
 
 -- ---- the cut
 
--- the digit that is tested is bit k
-digit-of : (x k : ℕ) → bitAnd (x / 2 ^ k) 1 ≡ x / 2 ^ k % 2
-digit-of x k = and-mask (x / 2 ^ k) 1
-
-bit-by-digit : (x k : ℕ) → bitAnd (x / 2 ^ k) 1 ≡ 1 → bit x k ≡ true
-bit-by-digit x k e = bit-at x k ∙ eq-eqb (x / 2 ^ k % 2) 1 (sym (digit-of x k) ∙ e)
-
-no-bit-by-digit : (x k : ℕ) → ¬ (bitAnd (x / 2 ^ k) 1 ≡ 1) → bit x k ≡ false
-no-bit-by-digit x k n = bit-at x k ∙ ne-eqb (x / 2 ^ k % 2) 1 (λ e. n (digit-of x k ∙ e))
-
 module _ (k : ℕ) (l : List ℕ) (c : Cut k l) (mid : ℕ) where
   -- a term that holds the variable stands from the cut on
-  pub cut-before-holder : bitAnd (getD l mid 0 / 2 ^ k) 1 ≡ 1 → length (lacking k l) ≤ mid
+  pub cut-before-holder : bit (getD l mid 0) k ≡ true → length (lacking k l) ≤ mid
   cut-before-holder e = go (decLt mid (length (lacking k l)))
     where
       go : Dec (mid < length (lacking k l)) → length (lacking k l) ≤ mid
-      go (yes h) = absurd (true≢false (sym (bit-by-digit (getD l mid 0) k e) ∙ before-cut k l c mid h))
+      go (yes h) = absurd (true≢false (sym e ∙ before-cut k l c mid h))
       go (no n) = omega arith
 
   -- a term that lacks it stands before the cut
-  pub cut-after-lacker : mid < length l → ¬ (bitAnd (getD l mid 0 / 2 ^ k) 1 ≡ 1) → mid < length (lacking k l)
-  cut-after-lacker h ne = go (decLt mid (length (lacking k l)))
+  pub cut-after-lacker : mid < length l → bit (getD l mid 0) k ≡ false → mid < length (lacking k l)
+  cut-after-lacker h e = go (decLt mid (length (lacking k l)))
     where
       go : Dec (mid < length (lacking k l)) → mid < length (lacking k l)
       go (yes h) = h
-      go (no n) = absurd (false≢true (sym (no-bit-by-digit (getD l mid 0) k ne) ∙ from-cut k l c mid (omega arith) h))
+      go (no n) = absurd (false≢true (sym e ∙ from-cut k l c mid (omega arith) h))
 
 pub cut-inside : (k : ℕ) (l : List ℕ) → Cut k l → length (lacking k l) ≤ length l
 cut-inside k l c = omega (arith, cut-within k l c)
@@ -114,20 +101,6 @@ matched-everywhere k u v [] [] e h = tt
 matched-everywhere k u v [] (y ∷ c) e h = absurd (omega arith)
 matched-everywhere k u v (x ∷ d) [] e h = absurd (omega arith)
 matched-everywhere k u v (x ∷ d) (y ∷ c) e h = (h 0 (omega arith), matched-everywhere k u v d c (omega arith) (λ i l. h (suc i) (omega arith)))
-
--- ---- the bits below k
-
-pub low-by-mask : (w x k : ℕ) → k < w → bitAnd x ((1 * 2 ^ k) % 2 ^ w - 1) ≡ x % 2 ^ k
-low-by-mask w x k h =
-    ap (λ (m : ℕ). bitAnd x (m - 1)) (shl-exact 1 k w (omega arith) (omega arith) ∙ one-mul (2 ^ k)) ∙ and-mask x k
-
-pub mask-not-zero : (w k : ℕ) → k < w → 1 ≤ (1 * 2 ^ k) % 2 ^ w
-mask-not-zero w k h = subst (λ (m : ℕ). 1 ≤ m) (sym (shl-exact 1 k w (omega arith) (omega arith) ∙ one-mul (2 ^ k))) (pow-pos k)
-
-pub low-of-all : (w x k : ℕ) → x < 2 ^ w → k ≤ w → w ≤ k → x ≡ x % 2 ^ k
-low-of-all w x k h p q =
-    let e : w ≡ k = omega arith in
-    sym (mod-eq-of-lt (subst (λ (n : ℕ). x < 2 ^ n) e h))
 
 -- ---- the variables of a mask
 

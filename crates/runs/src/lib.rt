@@ -1,80 +1,88 @@
 // What the four-list test reads off runs of terms without asking on: which variables are constant, where a run is cut, which lists
 // agree. None of it is recursive. Only the bits below k are read.
 ghost use mathlib.Core.Path.{_≡_};
-ghost use Prim.Native.Nat.{_%_, _^_, _≤_, _<_};
+ghost use Prim.Native.Nat.{_+_, _^_, _≤_, _<_};
 ghost use lib.ListN.{length};
+ghost use Rattle.narrow.specs.Numbers.{value, numbers, room, lines};
 ghost use Rattle.ring.specs.Run.{Decides, Cut, lacking, lows};
 ghost use Rattle.ring.specs.Ends.{turning, varying, imbalance, uneven, Four};
 ghost use Rattle.ring.specs.Lone.{Matched};
 ghost use Rattle.runs.specs.Read.{Vanish, Within, Left, shape, Pairing};
+use narrow::Term;
 
 // Whether one of two lists is empty.
 pub fn vanish(x: &[u64], y: &[u64]) -> bool
-    ensures { λ r. ⌜ Decides r (Vanish (now (x .entry)) (now (y .entry))) ⌝ }
+    ensures { λ r. ⌜ Decides r (Vanish (numbers (now (x .entry))) (numbers (now (y .entry)))) ⌝ }
 {
-    if x.len() == 0 {
+    if narrow::count(x) == 0 {
         return true;
     }
-    if y.len() == 0 {
+    if narrow::count(y) == 0 {
         return true;
     }
     false
 }
 
-// The variables on which the first and the last term of a list differ.
-pub fn turn(l: &[u64]) -> u64
-    requires { ⌜ 0 < length (now l) ⌝ }
-    ensures { λ r. ⌜ r ≡ turning (now (l .entry)) ⌝ }
+// How many terms two lists have together.
+pub fn size(x: &[u64], y: &[u64]) -> usize
+    ensures { λ r. ⌜ (r ≡ length (numbers (now (x .entry))) + length (numbers (now (y .entry)))) × (r < 2 ^ 63) ⌝ }
 {
-    let end = l.len() - 1;
-    l[0] ^ l[end]
+    narrow::count(x) + narrow::count(y)
+}
+
+// The variables on which the first and the last term of a list differ.
+pub fn turn(l: &[u64]) -> Term
+    requires { ⌜ 0 < length (numbers (now l)) ⌝ }
+    ensures { λ r. ⌜ value r ≡ turning (numbers (now (l .entry))) ⌝ }
+{
+    let end = narrow::count(l) - 1;
+    narrow::xor(narrow::at(l, 0), narrow::at(l, end))
 }
 
 // The variables that are not constant in one of the four lists.
-pub fn vary(a: &[u64], d: &[u64], b: &[u64], c: &[u64], k: u64) -> u64
-    requires { ⌜ Four k (now a) (now d) (now b) (now c) ⌝ }
-    ensures { λ r. ⌜ r ≡ varying (now (a .entry)) (now (d .entry)) (now (b .entry)) (now (c .entry)) ⌝ }
+pub fn vary(a: &[u64], d: &[u64], b: &[u64], c: &[u64], k: u64) -> Term
+    requires { ⌜ Four k (numbers (now a)) (numbers (now d)) (numbers (now b)) (numbers (now c)) ⌝ }
+    ensures { λ r. ⌜ value r ≡ varying (numbers (now (a .entry))) (numbers (now (d .entry))) (numbers (now (b .entry))) (numbers (now (c .entry))) ⌝ }
 {
-    (turn(a) | turn(d)) | (turn(b) | turn(c))
+    narrow::or(narrow::or(turn(a), turn(d)), narrow::or(turn(b), turn(c)))
 }
 
 // The variables that do not stand equally often in p times q and in r times s.
-pub fn balance(p: u64, q: u64, r: u64, s: u64) -> u64
-    ensures { λ m. ⌜ m ≡ imbalance p q r s ⌝ }
+pub fn balance(p: Term, q: Term, r: Term, s: Term) -> Term
+    ensures { λ m. ⌜ value m ≡ imbalance (value p) (value q) (value r) (value s) ⌝ }
 {
-    ((p ^ q) ^ (r ^ s)) | ((p & q) ^ (r & s))
+    let one = narrow::xor(narrow::xor(p, q), narrow::xor(r, s));
+    let two = narrow::xor(narrow::and(p, q), narrow::and(r, s));
+    narrow::or(one, two)
 }
 
 // The variables that the first terms do not hold equally often on either side.
-pub fn clash(a: &[u64], d: &[u64], b: &[u64], c: &[u64], k: u64) -> u64
-    requires { ⌜ Four k (now a) (now d) (now b) (now c) ⌝ }
-    ensures { λ r. ⌜ r ≡ uneven (now (a .entry)) (now (d .entry)) (now (b .entry)) (now (c .entry)) ⌝ }
+pub fn clash(a: &[u64], d: &[u64], b: &[u64], c: &[u64], k: u64) -> Term
+    requires { ⌜ Four k (numbers (now a)) (numbers (now d)) (numbers (now b)) (numbers (now c)) ⌝ }
+    ensures { λ r. ⌜ value r ≡ uneven (numbers (now (a .entry))) (numbers (now (d .entry))) (numbers (now (b .entry))) (numbers (now (c .entry))) ⌝ }
 {
-    balance(a[0], d[0], b[0], c[0])
-}
-
-// A term without its bits from k on.
-pub fn low(x: u64, k: u64) -> u64
-    requires { ⌜ k ≤ 64 ⌝ }
-    ensures { λ r. ⌜ r ≡ x % 2 ^ k ⌝ }
-{
-    if k < 64 { x & ((1 << k) - 1) } else { x }
+    balance(
+        narrow::at(a, 0),
+        narrow::at(d, 0),
+        narrow::at(b, 0),
+        narrow::at(c, 0),
+    )
 }
 
 // How many variables are left if those on top are skipped that the mask does not hold.
-pub fn left(m: u64, k: u64) -> u64
-    ensures { λ r. ⌜ Left m k r ⌝ }
+pub fn left(m: Term, k: u64) -> u64
+    ensures { λ r. ⌜ Left (value m) k r ⌝ }
 {
-    let w = terms::width_of(m);
+    let w = narrow::top(m);
     if w < k { w } else { k }
 }
 
 // Whether the mask holds a variable from w up to k.
-pub fn within(m: u64, w: u64, k: u64) -> bool
-    requires { ⌜ k ≤ 64 ⌝ }
-    ensures { λ r. ⌜ Decides r (Within m w k) ⌝ }
+pub fn within(m: Term, w: u64, k: u64) -> bool
+    requires { ⌜ k ≤ lines ⌝ }
+    ensures { λ r. ⌜ Decides r (Within (value m) w k) ⌝ }
 {
-    let n = terms::width_of(low(m, k));
+    let n = narrow::top(narrow::low(m, k));
     if w < n {
         return true;
     }
@@ -83,16 +91,18 @@ pub fn within(m: u64, w: u64, k: u64) -> bool
 
 // Whether two lists agree, term by term, below bit k.
 pub fn alike(a: &[u64], b: &[u64], k: u64) -> bool
-    requires { ⌜ k ≤ 64 ⌝ }
-    ensures { λ r. ⌜ Decides r (lows k (now (a .entry)) ≡ lows k (now (b .entry))) ⌝ }
+    requires { ⌜ k ≤ lines ⌝ }
+    ensures { λ r. ⌜ Decides r (lows k (numbers (now (a .entry))) ≡ lows k (numbers (now (b .entry)))) ⌝ }
 {
-    let n = a.len();
-    if n != b.len() {
+    let n = narrow::count(a);
+    if n != narrow::count(b) {
         return false;
     }
     let mut i = 0;
     while i < n {
-        if low(a[i], k) != low(b[i], k) {
+        let x = narrow::low(narrow::at(a, i), k);
+        let y = narrow::low(narrow::at(b, i), k);
+        if !narrow::same(x, y) {
             return false;
         }
         i += 1;
@@ -101,18 +111,18 @@ pub fn alike(a: &[u64], b: &[u64], k: u64) -> bool
 }
 
 // Whether the terms of two lists match in order: u times the one is v times the other, below bit k.
-pub fn matched(u: u64, v: u64, d: &[u64], c: &[u64], k: u64) -> bool
-    requires { ⌜ k ≤ 64 ⌝ }
-    ensures { λ r. ⌜ Decides r (Matched k u v (now (d .entry)) (now (c .entry))) ⌝ }
+pub fn matched(u: Term, v: Term, d: &[u64], c: &[u64], k: u64) -> bool
+    requires { ⌜ k ≤ lines ⌝ }
+    ensures { λ r. ⌜ Decides r (Matched k (value u) (value v) (numbers (now (d .entry))) (numbers (now (c .entry)))) ⌝ }
 {
-    let n = d.len();
-    if n != c.len() {
+    let n = narrow::count(d);
+    if n != narrow::count(c) {
         return false;
     }
     let mut i = 0;
     while i < n {
-        let left = low(balance(u, d[i], v, c[i]), k);
-        if left != 0 {
+        let left = narrow::low(balance(u, narrow::at(d, i), v, narrow::at(c, i)), k);
+        if !narrow::empty(left) {
             return false;
         }
         i += 1;
@@ -120,17 +130,16 @@ pub fn matched(u: u64, v: u64, d: &[u64], c: &[u64], k: u64) -> bool
     true
 }
 
-// The index of the first term that holds variable k, or the length.
+// The index of the first term that holds variable k, or the length. The words of the terms before it are there.
 pub fn cut(l: &[u64], k: u64) -> usize
-    requires { ⌜ (k < 64) × Cut k (now l) ⌝ }
-    ensures { λ r. ⌜ (r ≡ length (lacking k (now (l .entry)))) × (r ≤ length (now (l .entry))) ⌝ }
+    requires { ⌜ (k < lines) × Cut k (numbers (now l)) ⌝ }
+    ensures { λ r. ⌜ (r ≡ length (lacking k (numbers (now (l .entry))))) × (room r ≤ length (now (l .entry))) ⌝ }
 {
     let mut from = 0;
-    let mut to = l.len();
+    let mut to = narrow::count(l);
     while from < to {
         let mid = from + (to - from) / 2;
-        let digit = (l[mid] >> k) & 1;
-        if digit == 1 {
+        if narrow::holds(narrow::at(l, mid), k) {
             to = mid;
         } else {
             from = mid + 1;
@@ -141,12 +150,12 @@ pub fn cut(l: &[u64], k: u64) -> usize
 
 // How variable k stands in a list with these halves.
 pub fn shape_of(l: &[u64], h: &[u64]) -> u64
-    ensures { λ r. ⌜ r ≡ shape (now (l .entry)) (now (h .entry)) ⌝ }
+    ensures { λ r. ⌜ r ≡ shape (numbers (now (l .entry))) (numbers (now (h .entry))) ⌝ }
 {
-    if l.len() == 0 {
+    if narrow::count(l) == 0 {
         return 1;
     }
-    if h.len() == 0 {
+    if narrow::count(h) == 0 {
         return 0;
     }
     2

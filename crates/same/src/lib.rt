@@ -3,6 +3,7 @@
 ghost use mathlib.Core.Path.{_≡_};
 ghost use Rattle.answer.specs.Table.{numbersOf};
 ghost use Rattle.answer.specs.Checked.{Passed, Checked};
+ghost use Rattle.narrow.specs.Numbers.{numbers};
 ghost use Rattle.same.specs.Same.{sameChecks, Judged, SameEnds};
 use answer::Outcome;
 use terms::TermList;
@@ -10,7 +11,7 @@ use terms::TermList;
 // Whether AD = BC: count 1 for yes, 0 for no. The operands are A, D, B, C, in this order.
 pub fn same_products(a: &[u64], d: &[u64], b: &[u64], c: &[u64]) -> Outcome
     ensures { λ r. do
-      ⌜ SameEnds (← ⟦TermList::MAX_TERMS⟧ .entry) (← ⟦TermList::MAX_VARS⟧ .entry) (now (a .entry)) (now (d .entry)) (now (b .entry)) (now (c .entry)) (numbersOf r) ⌝ }
+      ⌜ SameEnds (← ⟦TermList::MAX_TERMS⟧ .entry) (← ⟦TermList::MAX_VARS⟧ .entry) (numbers (now (a .entry))) (numbers (now (d .entry))) (numbers (now (b .entry))) (numbers (now (c .entry))) (numbersOf r) ⌝ }
 {
     let verdict = checks(a, d, b, c);
     if answer::refuses(verdict) {
@@ -23,43 +24,47 @@ pub fn same_products(a: &[u64], d: &[u64], b: &[u64], c: &[u64]) -> Outcome
 // What is refused, in the order of the rules.
 fn checks(a: &[u64], d: &[u64], b: &[u64], c: &[u64]) -> Outcome
     ensures { λ r. do
-      ⌜ Checked (sameChecks (← ⟦TermList::MAX_TERMS⟧ .entry) (now (a .entry)) (now (d .entry)) (now (b .entry)) (now (c .entry))) (numbersOf r) ⌝ }
+      ⌜ Checked (sameChecks (← ⟦TermList::MAX_TERMS⟧ .entry) (numbers (now (a .entry))) (numbers (now (d .entry))) (numbers (now (b .entry))) (numbers (now (c .entry)))) (numbersOf r) ⌝ }
 {
-    if TermList::MAX_TERMS < a.len() {
+    let in_a = narrow::count(a);
+    if TermList::MAX_TERMS < in_a {
         return Outcome::TooMany { operand: 1 };
     }
-    if TermList::MAX_TERMS < d.len() {
+    let in_d = narrow::count(d);
+    if TermList::MAX_TERMS < in_d {
         return Outcome::TooMany { operand: 2 };
     }
-    if TermList::MAX_TERMS < b.len() {
+    let in_b = narrow::count(b);
+    if TermList::MAX_TERMS < in_b {
         return Outcome::TooMany { operand: 3 };
     }
-    if TermList::MAX_TERMS < c.len() {
+    let in_c = narrow::count(c);
+    if TermList::MAX_TERMS < in_c {
         return Outcome::TooMany { operand: 4 };
     }
     let i = terms::first_unordered(a);
-    if i < a.len() {
+    if i < in_a {
         return Outcome::Order {
             operand: 1,
             place: i as u64,
         };
     }
     let j = terms::first_unordered(d);
-    if j < d.len() {
+    if j < in_d {
         return Outcome::Order {
             operand: 2,
             place: j as u64,
         };
     }
     let m = terms::first_unordered(b);
-    if m < b.len() {
+    if m < in_b {
         return Outcome::Order {
             operand: 3,
             place: m as u64,
         };
     }
     let n = terms::first_unordered(c);
-    if n < c.len() {
+    if n < in_c {
         return Outcome::Order {
             operand: 4,
             place: n as u64,
@@ -70,8 +75,8 @@ fn checks(a: &[u64], d: &[u64], b: &[u64], c: &[u64]) -> Outcome
 
 // The answer for four lists that passed the checks.
 fn judge(a: &[u64], d: &[u64], b: &[u64], c: &[u64]) -> u64
-    requires { do ⌜ Passed (sameChecks (← ⟦TermList::MAX_TERMS⟧) (now a) (now d) (now b) (now c)) ⌝ }
-    ensures { λ r. do ⌜ Judged (← ⟦TermList::MAX_VARS⟧ .entry) (now (a .entry)) (now (d .entry)) (now (b .entry)) (now (c .entry)) r (tt {0}) ⌝ }
+    requires { do ⌜ Passed (sameChecks (← ⟦TermList::MAX_TERMS⟧) (numbers (now a)) (numbers (now d)) (numbers (now b)) (numbers (now c))) ⌝ }
+    ensures { λ r. do ⌜ Judged (← ⟦TermList::MAX_VARS⟧ .entry) (numbers (now (a .entry))) (numbers (now (d .entry))) (numbers (now (b .entry))) (numbers (now (c .entry))) r (tt {0}) ⌝ }
 {
     let vars = TermList::MAX_VARS as u64;
     let equal = cross::same(a, d, b, c, vars);

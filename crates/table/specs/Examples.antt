@@ -8,7 +8,8 @@ use lib.ListN.{length, replicate}
 use Rattle.answer.specs.declared.Answer.{Answer}
 use Rattle.answer.specs.Table.{accepted, refused}
 use Rattle.answer.specs.Ends.{over}
-use Rattle.parts.specs.Split.{Buffers, joined, lengths, SplitEnds}
+use Rattle.taking.specs.Joined.{joined, lengths}
+use Rattle.parts.specs.Split.{Buffers, SplitEnds}
 use Rattle.ring.specs.Same.{one-if}
 use Rattle.same.specs.Same.{SameEnds}
 

@@ -1,3 +1,2 @@
 pub mod Order
-pub mod Width
 pub mod Vars

@@ -4,7 +4,7 @@ use mathlib.Core.Path.{_≡_, refl, sym, ap, _∙_, subst}
 use mathlib.Core.List.{List, [], _∷_}
 use native.Mathlib.Omega.{arith}
 use lib.Bits.{bitOr, or-lt}
-use lib.ListN.{length, getD, drop}
+use lib.ListN.{length, getD, take, drop}
 use lib.Pow.{pow-pos}
 use lib.Seq.{drop-cons, drop-length}
 use Rattle.polys.specs.Poly.{vars}
@@ -36,3 +36,10 @@ pub vars-below : (k : ℕ) (l : List ℕ) → ((i : ℕ) → getD l i 0 < 2 ^ k)
 vars-below k [] h = subst (λ (m : ℕ). m < 2 ^ k) (sym vars-nil) (pow-pos k)
 vars-below k (x ∷ l) h =
     subst (λ (m : ℕ). m < 2 ^ k) (sym (vars-cons x l)) (or-lt k x (vars l) (h 0) (vars-below k l (λ i. h (suc i))))
+
+-- and so have those of its first terms
+pub front-below : (k t : ℕ) (l : List ℕ) → ((i : ℕ) → getD l i 0 < 2 ^ k) → vars (take t l) < 2 ^ k
+front-below k zero l h = subst (λ (m : ℕ). m < 2 ^ k) (sym vars-nil) (pow-pos k)
+front-below k (suc t) [] h = subst (λ (m : ℕ). m < 2 ^ k) (sym vars-nil) (pow-pos k)
+front-below k (suc t) (x ∷ l) h =
+    subst (λ (m : ℕ). m < 2 ^ k) (sym (vars-cons x (take t l))) (or-lt k x (vars (take t l)) (h 0) (front-below k t l (λ i. h (suc i))))

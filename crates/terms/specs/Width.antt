@@ -1,17 +1,8 @@
 -- n of a polynomial (RULES 1.4): the number of its highest variable plus 1, or 0 where it has no variable.
-use Prim.Native.Nat.{ℕ, zero, suc, _/_}
+use Prim.Native.Nat.{ℕ}
 use mathlib.Core.List.{List}
+use Rattle.masks.specs.Width.{width}
 use Rattle.polys.specs.Poly.{vars}
-
--- how often m can be halved before nothing is left, asked at most k times
-unfoldable pub halvings : ℕ → ℕ → ℕ
-halvings zero m = 0
-halvings (suc k) zero = 0
-halvings (suc k) (suc m) = suc (halvings k (suc m / 2))
-
--- one more than the highest variable of the set m, 0 for the empty set
-unfoldable pub width : ℕ → ℕ
-width m = halvings m m
 
 -- n of a polynomial
 abbrev pub widthOf : List ℕ → ℕ

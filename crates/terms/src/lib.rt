@@ -1,30 +1,30 @@
-// The term list (RULES 1): its limits, its record, the order check, its variables and n.
+// The term list (RULES 1): its limits, its record, the order check and its variables.
 ghost use mathlib.Core.Path.{_≡_};
-ghost use Prim.Native.Nat.{_≤_};
 ghost use lib.Bits.{bitAnd};
 ghost use lib.ListN.{length};
 ghost use Rattle.polys.specs.Poly.{vars};
 ghost use Rattle.terms.specs.Order.{unordered};
-ghost use Rattle.terms.specs.Width.{width};
+ghost use Rattle.narrow.specs.Numbers.{value, numbers};
+use narrow::Term;
 
 // What is known of a lent list of terms: how many there are, and which variables stand in them.
 pub struct TermList {
     pub count: usize,
-    pub vars: u64,
+    pub vars: Term,
 }
 
 impl TermList {
     // A list has at most this many terms.
     pub const MAX_TERMS: usize = 1024;
     // A variable number is below this.
-    pub const MAX_VARS: usize = 64;
+    pub const MAX_VARS: usize = Term::LINES;
 
     // The record of a lent list.
     pub fn of(terms: &[u64]) -> Self
-        ensures { λ r. ⌜ (r .count ≡ length (now (terms .entry))) × (r .vars ≡ vars (now (terms .entry))) ⌝ }
+        ensures { λ r. ⌜ (r .count ≡ length (numbers (now (terms .entry)))) × (value (r .vars) ≡ vars (numbers (now (terms .entry)))) ⌝ }
     {
         Self {
-            count: terms.len(),
+            count: narrow::count(terms),
             vars: variables(terms),
         }
     }
@@ -32,20 +32,20 @@ impl TermList {
 
 // The first index whose term is not above the one before it, or the length.
 pub fn first_unordered(terms: &[u64]) -> usize
-    ensures { λ r. ⌜ r ≡ unordered (now (terms .entry)) ⌝ }
+    ensures { λ r. ⌜ r ≡ unordered (numbers (now (terms .entry))) ⌝ }
 {
-    let n = terms.len();
+    let n = narrow::count(terms);
     if n == 0 {
         return 0;
     }
-    let mut last = terms[0];
+    let mut last = narrow::at(terms, 0);
     let mut i = 1;
     let at = loop {
         if n <= i {
             break n;
         }
-        let next = terms[i];
-        if next <= last {
+        let next = narrow::at(terms, i);
+        if !narrow::less(last, next) {
             break i;
         }
         last = next;
@@ -55,30 +55,23 @@ pub fn first_unordered(terms: &[u64]) -> usize
 }
 
 // The variables of a list: those that some term holds.
-pub fn variables(terms: &[u64]) -> u64
-    ensures { λ r. ⌜ r ≡ vars (now (terms .entry)) ⌝ }
+pub fn variables(terms: &[u64]) -> Term
+    ensures { λ r. ⌜ value r ≡ vars (numbers (now (terms .entry))) ⌝ }
 {
-    let mut all = 0u64;
-    let mut i = terms.len();
+    let mut all = narrow::none();
+    let mut i = narrow::count(terms);
     while 0 < i {
         i -= 1;
-        all = terms[i] | all;
+        all = narrow::or(narrow::at(terms, i), all);
     }
     all
 }
 
 // The variables that two lists share.
-pub fn shared(a: &[u64], b: &[u64]) -> u64
-    ensures { λ r. ⌜ r ≡ bitAnd (vars (now (a .entry))) (vars (now (b .entry))) ⌝ }
+pub fn shared(a: &[u64], b: &[u64]) -> Term
+    ensures { λ r. ⌜ value r ≡ bitAnd (vars (numbers (now (a .entry)))) (vars (numbers (now (b .entry)))) ⌝ }
 {
     let first = TermList::of(a);
     let second = TermList::of(b);
-    first.vars & second.vars
-}
-
-// One more than the highest variable of a set, 0 for the empty set.
-pub fn width_of(set: u64) -> u64
-    ensures { λ r. ⌜ r ≡ width set ⌝ }
-{
-    64 - (u64::leading_zeros(set) as u64)
+    narrow::and(first.vars, second.vars)
 }

@@ -1,4 +1,5 @@
 pub mod Rows
+pub mod Counting
 pub mod Cut
 pub mod Steps
 pub mod Writing

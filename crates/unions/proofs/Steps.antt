@@ -8,12 +8,12 @@ use mathlib.Core.Path.{_≡_, refl, sym, ap, ap₂, _∙_, subst}
 use mathlib.Core.List.{List, [], _∷_, _++_, map}
 use lib.Bits.{bitOr, bitXor}
 use lib.ListN.{length, getD, take, drop, length-drop}
-use lib.Seq.{getD-take, getD-drop, length-take-le, take-all, drop-drop}
+use lib.Seq.{getD-take, getD-drop, length-take-le, drop-drop}
 use Rattle.masks.proofs.Reflect.{∅, _∩_, _⊕_, _≐_, _⊆_, _⇒_, ∴_, identity}
 use Rattle.polys.specs.List.{Mem}
 use Rattle.polys.specs.Poly.{vars, times}
 use Rattle.polys.proofs.Lists.{mem-at, mem-take, mem-drop, asc-take, asc-drop, asc-map, asc-at}
-use Rattle.polys.proofs.Polys.{vars-hold, apart-sym, apart-sub, union-is-sum, times-term, times-comm}
+use Rattle.polys.proofs.Polys.{vars-hold, apart-sym, apart-sub, union-is-sum, times-term}
 use Rattle.unions.proofs.Cut.{run-short, times-by-runs}
 use Rattle.unions.specs.Unions.{Factors, Wider, Run, span}
 
@@ -68,31 +68,24 @@ second-wider a b h more l = record { factors = factors-swap a b h; narrow = refl
 -- ---- one turn of the loop over the runs of a: from the place `at` on, a run of r terms
 
 -- what one turn counts on: the run is a part of a, and shorter; it is a row if it has one term, and else varies by less than b; its
--- product, followed by that of the rest, is the product from here on. The list b is lent whole, as a part of itself.
-pub record Turn (a b : List ℕ) (at r : ℕ) : Type 0 where
+-- product, followed by that of the rest, is the product from here on
+pub record Turn (a b : List ℕ) (at r : ℕ) (part : List ℕ) : Type 0 where
   pub within : at + r ≤ length a
-  pub count : length (take (at + r - at) (drop at a)) ≡ r
-  pub shorter : length (take (length b - 0) b) + length (take (at + r - at) (drop at a)) < length a + length b
-  pub factors : Factors (take (at + r - at) (drop at a)) b
-  pub lone : r ≡ 1 → times (take (at + r - at) (drop at a)) b ≡ map (bitOr (getD a at 0)) b
-  pub wider : (r ≡ 1 → ⊥) → Wider (take (length b - 0) b) (take (at + r - at) (drop at a)) (bitXor (getD a at 0) (getD a (at + r - 1) 0))
-  pub turned : times (take (length b - 0) b) (take (at + r - at) (drop at a)) ≡ times (take (at + r - at) (drop at a)) b
-  pub tail : times (drop at a) b ≡ times (take (at + r - at) (drop at a)) b ++ times (drop (at + r) a) b
+  pub count : length part ≡ r
+  pub shorter : length b + length part < length a + length b
+  pub factors : Factors part b
+  pub lone : r ≡ 1 → times part b ≡ map (bitOr (getD a at 0)) b
+  pub wider : (r ≡ 1 → ⊥) → Wider b part (bitXor (getD a at 0) (getD a (at + r - 1) 0))
+  pub tail : times (drop at a) b ≡ times part b ++ times (drop (at + r) a) b
 
-module _ (a b : List ℕ) (d at r : ℕ) (h : Wider a b d) (inside : at < length a) (cut : Run (take (length a - at) (drop at a)) d r) where
-  tail-lent : take (length a - at) (drop at a) ≡ drop at a
-  tail-lent = take-all (length a - at) (drop at a) (omega (arith, length-drop at a))
-
-  run-of-tail : Run (drop at a) d r
-  run-of-tail = subst (λ (l : List ℕ). Run l d r) tail-lent cut
-
+module _ (a b : List ℕ) (d at r : ℕ) (h : Wider a b d) (inside : at < length a) (cut : Run (drop at a) d r) where
   run-within : at + r ≤ length a
-  run-within = omega (arith, run-of-tail .within, length-drop at a)
+  run-within = omega (arith, cut .within, length-drop at a)
 
   length-part : length (take (at + r - at) (drop at a)) ≡ r
   length-part =
       let e : at + r - at ≡ r = omega arith in
-      ap (λ (k : ℕ). length (take k (drop at a))) e ∙ length-take-le r (drop at a) (run-of-tail .within)
+      ap (λ (k : ℕ). length (take k (drop at a))) e ∙ length-take-le r (drop at a) (cut .within)
 
   -- the run is shorter than a, which varies by more
   run-shorter : length (take (at + r - at) (drop at a)) < length a
@@ -102,7 +95,7 @@ module _ (a b : List ℕ) (d at r : ℕ) (h : Wider a b d) (inside : at < length
       go (no n) = omega (arith, length-part, run-within)
       go (yes z) =
           let e : at ≡ 0 = omega arith in
-          let s : r < length a = run-short a d r (subst (λ (k : ℕ). Run (drop k a) d r) e run-of-tail) (h .wide) in
+          let s : r < length a = run-short a d r (subst (λ (k : ℕ). Run (drop k a) d r) e cut) (h .wide) in
           omega (arith, length-part)
 
   factors-of-tail : Factors (drop at a) b
@@ -156,29 +149,24 @@ module _ (a b : List ℕ) (d at r : ℕ) (h : Wider a b d) (inside : at < length
           let e : at + (r - 1) ≡ at + r - 1 = omega (arith, cut .some) in
           subst (λ (x : ℕ). x ≤ d)
           (ap₂ bitXor (getD-drop at a 0 0 ∙ ap (λ (k : ℕ). getD a k 0) (add-zero at)) (getD-drop at a (r - 1) 0 ∙ ap (λ (k : ℕ). getD a k 0) e))
-          (run-of-tail .near)
+          (cut .near)
 
   -- the product from here on is that of the run followed by that of the rest
   times-of-tail : times (drop at a) b ≡ times (take (at + r - at) (drop at a)) b ++ times (drop (at + r) a) b
   times-of-tail =
       let e : r ≡ at + r - at = omega arith in
-      times-by-runs (drop at a) b d r factors-of-tail (h .narrow) run-of-tail
+      times-by-runs (drop at a) b d r factors-of-tail (h .narrow) cut
       ∙ ap₂ (λ (k : ℕ) (l : List ℕ). times (take k (drop at a)) b ++ times l b) e (drop-drop r at a)
 
-  all-of-b : take (length b - 0) b ≡ b
-  all-of-b = take-all (length b - 0) b (omega arith)
-
-  pub turn : Turn a b at r
-  turn =
+  pub turn : (part : List ℕ) → part ≡ take (at + r - at) (drop at a) → Turn a b at r part
+  turn part e = subst (Turn a b at r) (sym e) (
       record {
         within = run-within;
         count = length-part;
-        shorter = omega (arith, run-shorter, ap length all-of-b);
+        shorter = omega (arith, run-shorter);
         factors = factors-of-part;
         lone = times-of-lone;
-        wider =
-            λ more. subst (λ (l : List ℕ). Wider l (take (at + r - at) (drop at a)) (bitXor (getD a at 0) (getD a (at + r - 1) 0))) (sym all-of-b)
-            (wider-than-run more);
-        turned = ap (λ (l : List ℕ). times l (take (at + r - at) (drop at a))) all-of-b ∙ times-comm b (take (at + r - at) (drop at a));
+        wider = wider-than-run;
         tail = times-of-tail;
       }
+      )

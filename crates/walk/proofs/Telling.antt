@@ -18,41 +18,40 @@ use Rattle.polys.proofs.Lists.{above-mem, head-least, mem-at, asc-append-below}
 use Rattle.polys.proofs.Polys.{times-asc, times-comm}
 use Rattle.unions.specs.Unions.{Factors}
 use Rattle.unions.proofs.Steps.{factors-swap, times-of-one}
-use Rattle.walk.specs.Walk.{Comparable, Compared, met, walked}
-use Rattle.walk.specs.declared.Walked.{Walked}
-use Rattle.walk.specs.declared.Walked.the-variants.{On, Lacks, Adds}
-use Rattle.walk.specs.declared.Beside.the-variants.{Same, Missing, Extra}
+use Rattle.walk.specs.Walk.{Comparable, Way, on, lacks, adds, met, walked}
 
 -- ---- the whole product
 
 module _ (a b f : List ℕ) (h : Factors a b) where
-  pub row-whole : length a ≡ 1 → (w : Walked) → w ≡ walked (map (bitOr (getD a 0 0)) b) f 0 → w ≡ walked (times a b) f 0
-  row-whole e w k = k ∙ ap (λ (p : List ℕ). walked p f 0) (sym (times-of-one a b h e))
+  pub row-whole : (k t : ℕ) → k ≡ length a → k ≡ 1 → t ≡ getD a 0 0 → (w : Way) → w ≡ walked (map (bitOr t) b) f 0 → w ≡ walked (times a b) f 0
+  row-whole k t c e u w s = s ∙ ap (λ (p : List ℕ). walked p f 0) (ap (λ (t : ℕ). map (bitOr t) b) u ∙ sym (times-of-one a b h (sym c ∙ e)))
 
-  pub column-whole : length b ≡ 1 → (w : Walked) → w ≡ walked (map (bitOr (getD b 0 0)) a) f 0 → w ≡ walked (times a b) f 0
-  column-whole e w k = k ∙ ap (λ (p : List ℕ). walked p f 0) (sym (times-of-one b a (factors-swap a b h) e) ∙ times-comm b a)
+  pub column-whole : (k t : ℕ) → k ≡ length b → k ≡ 1 → t ≡ getD b 0 0 → (w : Way) → w ≡ walked (map (bitOr t) a) f 0 → w ≡ walked (times a b) f 0
+  column-whole k t c e u w s =
+      s ∙ ap (λ (p : List ℕ). walked p f 0)
+      (ap (λ (t : ℕ). map (bitOr t) a) u ∙ sym (times-of-one b a (factors-swap a b h) (sym c ∙ e)) ∙ times-comm b a)
 
-  pub second-whole : (w : Walked) → w ≡ walked (times b a) f 0 → w ≡ walked (times a b) f 0
+  pub second-whole : (w : Way) → w ≡ walked (times b a) f 0 → w ≡ walked (times a b) f 0
   second-whole w k = k ∙ ap (λ (p : List ℕ). walked p f 0) (times-comm b a)
 
 -- ---- what a walk from a place on tells of two ascending lists
 
-abbrev Told : List ℕ → List ℕ → ℕ → Walked → Type 0
-Told p f at (On k) = drop at f ≡ p ++ drop k f
-Told p f at (Lacks u) = Mem p u × ¬ Mem (drop at f) u
-Told p f at (Adds u) = Mem (drop at f) u × ¬ Mem p u
+abbrev Told : List ℕ → List ℕ → ℕ → Way → Type 0
+Told p f at (on k) = drop at f ≡ p ++ drop k f
+Told p f at (lacks u) = Mem p u × ¬ Mem (drop at f) u
+Told p f at (adds u) = Mem (drop at f) u × ¬ Mem p u
 
 -- the list from a place on
 from : (f : List ℕ) (at : ℕ) → at < length f → drop at f ≡ getD f at 0 ∷ drop (at + 1) f
 from f at h = drop-cons f at 0 h ∙ ap (λ (k : ℕ). getD f at 0 ∷ drop k f) (sym (add-one at))
 
 -- where both lists have x there, what is told behind it is told from it on
-told-on : (x : ℕ) (p f : List ℕ) (at : ℕ) (w : Walked) → drop at f ≡ x ∷ drop (at + 1) f → Above x p → Above x (drop (at + 1) f)
+told-on : (x : ℕ) (p f : List ℕ) (at : ℕ) (w : Way) → drop at f ≡ x ∷ drop (at + 1) f → Above x p → Above x (drop (at + 1) f)
     → Told p f (at + 1) w → Told (x ∷ p) f at w
-told-on x p f at (On k) e a b t = e ∙ ap (λ (l : List ℕ). x ∷ l) t
-told-on x p f at (Lacks u) e a b t =
+told-on x p f at (on k) e a b t = e ∙ ap (λ (l : List ℕ). x ∷ l) t
+told-on x p f at (lacks u) e a b t =
     (inr (t .0), λ m. ⊎-elim (λ q. let l : x < u = above-mem x p u a (t .0) in let c : ⊥ = omega arith in c) (t .1) (subst (λ (l : List ℕ). Mem l u) e m))
-told-on x p f at (Adds u) e a b t = (
+told-on x p f at (adds u) e a b t = (
   subst (λ (l : List ℕ). Mem l u) (sym e) (inr (t .0)),
   ⊎-elim (λ q. let l : x < u = above-mem x (drop (at + 1) f) u b (t .0) in let c : ⊥ = omega arith in c) (t .1),
 )
@@ -91,25 +90,27 @@ told (x ∷ p) f at a b =
 
 -- ---- from the first place on
 
-module _ (a b f : List ℕ) (h : Comparable a b f) (w : Walked) (went : w ≡ walked (times a b) f 0) where
-  tells : (v : Walked) → w ≡ v → Told (times a b) f 0 v
+module _ {a b f : List ℕ} (h : Comparable a b f) {w : Way} (went : w ≡ walked (times a b) f 0) where
+  tells : (v : Way) → w ≡ v → Told (times a b) f 0 v
   tells v e = subst (Told (times a b) f 0) (sym went ∙ e) (told (times a b) f 0 (times-asc a b) (h .list))
 
-  pub tells-same : (at : ℕ) → w ≡ On at → length f ≤ at → Compared (times a b) f Same
-  tells-same at e l =
-      tells (On at) e ∙ ap (λ (r : List ℕ). times a b ++ r) (drop-of-length-le f {i = at} l) ∙ append-nil (times a b)
+  pub tells-same : {at n : ℕ} → n ≡ length f → w ≡ on at → n ≤ at → f ≡ times a b
+  tells-same {at = at} all e l =
+      tells (on at) e ∙ ap (λ (r : List ℕ). times a b ++ r) (drop-of-length-le f {i = at} (omega arith)) ∙ append-nil (times a b)
 
-  pub tells-more : (at : ℕ) → w ≡ On at → at < length f → Compared (times a b) f (Extra (getD f at 0))
-  tells-more at e l = (
-    mem-at f at l,
-    λ m. let i : getD f at 0 < getD f at 0 = asc-append-below (times a b) (drop at f) (getD f at 0) (getD f at 0) (subst Asc (tells (On at) e) (h .list)) m
-        (subst (λ (r : List ℕ). Mem r (getD f at 0)) (sym (from f at l)) (inl refl)) in
-        let c : ⊥ = omega arith in
-        c,
-  )
+  pub tells-more : {at n u : ℕ} → n ≡ length f → w ≡ on at → at < n → u ≡ getD f at 0 → Mem f u × ¬ Mem (times a b) u
+  tells-more {at = at} all e l this =
+      let l : at < length f = omega arith in
+      subst (λ (u : ℕ). Mem f u × ¬ Mem (times a b) u) (sym this) (
+        mem-at f at l,
+        λ m. let i : getD f at 0 < getD f at 0 = asc-append-below (times a b) (drop at f) (getD f at 0) (getD f at 0) (subst Asc (tells (on at) e) (h .list)) m
+            (subst (λ (r : List ℕ). Mem r (getD f at 0)) (sym (from f at l)) (inl refl)) in
+            let c : ⊥ = omega arith in
+            c,
+      )
 
-  pub tells-missing : (u : ℕ) → w ≡ Lacks u → Compared (times a b) f (Missing u)
-  tells-missing u e = tells (Lacks u) e
+  pub tells-missing : {u : ℕ} → w ≡ lacks u → Mem (times a b) u × ¬ Mem f u
+  tells-missing {u} e = tells (lacks u) e
 
-  pub tells-extra : (u : ℕ) → w ≡ Adds u → Compared (times a b) f (Extra u)
-  tells-extra u e = tells (Adds u) e
+  pub tells-extra : {u : ℕ} → w ≡ adds u → Mem f u × ¬ Mem (times a b) u
+  tells-extra {u} e = tells (adds u) e

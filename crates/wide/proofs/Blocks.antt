@@ -1,19 +1,22 @@
--- Two words read as one number, the high one in front: bit operations word by word, comparison, the lowest bit, and the words of a
--- list of terms. Leans on lib.Bits' laws of blocks. Assumes nothing.
-use mathlib.Core.Path.{_≡_, refl, sym, ap, ap₂, _∙_}
+-- Two words read as one number, the high one in front: bit operations word by word, comparison, single bits, the lowest and the highest, and the words
+-- of a list of terms. Leans on lib.Bits' laws of blocks. Assumes nothing.
+use mathlib.Core.Path.{_≡_, refl, sym, ap, ap₂, _∙_, subst}
 use mathlib.Core.Bool.{Bool, true, false}
 use mathlib.Core.List.{List, [], _∷_}
-use Prim.Native.Nat.{ℕ, zero, suc, _+_, _-_, _*_, _/_, _^_, _≤_, _<_}
-use native.Mathlib.Nat.{not-suc-le-zero, le-of-suc-le-suc, le-of-lt, add-zero}
+use Prim.Native.Nat.{ℕ, zero, suc, _+_, _-_, _*_, _/_, _%_, _^_, _≤_, _<_}
+use native.Mathlib.Nat.{not-suc-le-zero, le-of-suc-le-suc, le-of-lt, le-of-eq, le-trans, lt-of-lt-of-le, add-zero, zero-add, add-comm, zero-mul, mul-assoc, mul-le-mul-right, pow-suc}
 use native.Mathlib.Omega.{arith}
 use borrow.Author.Tests.{lt-ltb, le-ltb, ltb-true, ltb-false, eq-eqb, ne-eqb, eqb-true, eqb-false}
 use lib.Arith.{digits-lt, mul-pred, lt-of-le-ne}
 use lib.Bits.{bitAnd, bitXor, and-block, xor-block, and-lt, and-self, xor-self, and-zero-l, xor-zero-l}
 use lib.Dec.{ltb, eqb}
 use lib.ListN.{length, getD, set}
-use lib.Pow.{pow-pos, ones-lt, high}
-use Rattle.masks.specs.Bit.{without}
-use Rattle.wide.specs.Numbers.{two, numbers}
+use lib.Pow.{pow-pos, pow-add, ones-lt, high, low, shr-shr, mod-pow-add, mod-mod-pow}
+use Rattle.masks.specs.Bit.{bit, without}
+use Rattle.masks.specs.Width.{width}
+use Rattle.masks.proofs.Low.{bit-at, bit-low}
+use Rattle.masks.proofs.Width.{width-bounds, width-unique}
+use Rattle.wide.specs.Numbers.{two, numbers, lines}
 
 -- clearing bits, block by block
 pub off-block : (k a b r s : ℕ) → r < 2 ^ k → s < 2 ^ k
@@ -88,6 +91,64 @@ same-low k h l m = same-eqb l m (h * 2 ^ k + l) (h * 2 ^ k + m) (ap (λ (n : ℕ
 pub same-high : (k g h l m : ℕ) → l < 2 ^ k → m < 2 ^ k → (g ≡ h → ⊥) → false ≡ eqb (g * 2 ^ k + l) (h * 2 ^ k + m)
 same-high k g h l m f e other =
     sym (ne-eqb (g * 2 ^ k + l) (h * 2 ^ k + m) (λ q. other (sym (high g k f) ∙ ap (λ (n : ℕ). n / 2 ^ k) q ∙ high h k e)))
+
+-- nothing in the high block
+pub low-alone : (k h l : ℕ) → h ≡ 0 → l ≡ h * 2 ^ k + l
+low-alone k h l none = sym (ap (λ (n : ℕ). n * 2 ^ k + l) none ∙ ap (λ (n : ℕ). n + l) (zero-mul (2 ^ k)) ∙ zero-add l)
+
+-- a bit of the low block, and one of the high block
+pub bit-of-low : (k h l i : ℕ) → l < 2 ^ k → i < k → bit l i ≡ bit (h * 2 ^ k + l) i
+bit-of-low k h l i fits f = ap (λ (n : ℕ). bit n i) (sym (low h k fits)) ∙ bit-low (h * 2 ^ k + l) k i f
+
+pub bit-of-high : (k h l i : ℕ) → l < 2 ^ k → k ≤ i → bit h (i - k) ≡ bit (h * 2 ^ k + l) i
+bit-of-high k h l i fits f =
+    let all : k + (i - k) ≡ i = omega arith in
+    bit-at h (i - k)
+    ∙ ap (λ (n : ℕ). eqb (n % 2) 1) (
+    ap (λ (n : ℕ). n / 2 ^ (i - k)) (sym (high h k fits)) ∙ shr-shr (h * 2 ^ k + l) k (i - k) ∙ ap (λ (j : ℕ). (h * 2 ^ k + l) / 2 ^ j) all
+    )
+    ∙ sym (bit-at (h * 2 ^ k + l) i)
+
+-- the bits below one of the low block, and below one of the high block
+pub low-of-low : (k h l i : ℕ) → l < 2 ^ k → i ≤ k → 0 * 2 ^ k + l % 2 ^ i ≡ (h * 2 ^ k + l) % 2 ^ i
+low-of-low k h l i fits f =
+    let all : k ≡ (k - i) + i = omega arith in
+    sym (low-alone k 0 (l % 2 ^ i) refl)
+    ∙ ap (λ (n : ℕ). n % 2 ^ i) (sym (low h k fits))
+    ∙ ap (λ (j : ℕ). (h * 2 ^ k + l) % 2 ^ j % 2 ^ i) all
+    ∙ mod-mod-pow (h * 2 ^ k + l) (k - i) i
+
+pub low-of-high : (k h l i : ℕ) → l < 2 ^ k → k ≤ i → h % 2 ^ (i - k) * 2 ^ k + l ≡ (h * 2 ^ k + l) % 2 ^ i
+low-of-high k h l i fits f =
+    let all : (i - k) + k ≡ i = omega arith in
+    sym (ap₂ (λ (p q : ℕ). p % 2 ^ (i - k) * 2 ^ k + q) (high h k fits) (low h k fits))
+    ∙ sym (mod-pow-add (h * 2 ^ k + l) (i - k) k)
+    ∙ ap (λ (j : ℕ). (h * 2 ^ k + l) % 2 ^ j) all
+
+-- two words have no bit beyond those of both
+pub two-fits : (l h : ℕ) → l < 2 ^ 64 → h < 2 ^ 64 → two l h < 2 ^ lines
+two-fits l h f g = lt-of-lt-of-le (digits-lt g f) (le-of-eq (sym (pow-add 2 64 64)))
+
+-- the highest bit lies in the high block if that has one
+pub width-high : (k h l : ℕ) → l < 2 ^ k → 0 < h → k + width h ≡ width (h * 2 ^ k + l)
+width-high k h l fits some =
+    width-unique (h * 2 ^ k + l) (k + width h) record {
+      above = subst (λ (p : ℕ). h * 2 ^ k + l < p) whole (digits-lt (width-bounds h .above) fits);
+      near = subst (λ (p : ℕ). p ≤ 2 * (h * 2 ^ k + l) + 1) whole (
+          far (2 ^ width h * 2 ^ k) (h * 2 ^ k)
+          (le-trans (mul-le-mul-right (2 ^ k) (twice (width h) (width-bounds h .near))) (le-of-eq (mul-assoc 2 h (2 ^ k))))
+          );
+    }
+  where
+    whole : 2 ^ width h * 2 ^ k ≡ 2 ^ (k + width h)
+    whole = sym (pow-add 2 (width h) k) ∙ ap (λ (j : ℕ). 2 ^ j) (add-comm (width h) k)
+
+    twice : (j : ℕ) → 2 ^ j ≤ 2 * h + 1 → 2 ^ j ≤ 2 * h
+    twice zero e = omega arith
+    twice (suc j) e = omega (arith, pow-suc 2 j)
+
+    far : (x y : ℕ) → x ≤ 2 * y → x ≤ 2 * (y + l) + 1
+    far x y e = omega arith
 
 -- two words hold a term
 pub length-half : (ws : List ℕ) → length (numbers ws) ≡ length ws / 2

@@ -3,14 +3,13 @@
 use mathlib.Core.Path.{_≡_, refl, sym, ap, ap₂, _∙_}
 use mathlib.Core.List.{List, [], _∷_, _++_, append-nil}
 use Prim.Native.Nat.{ℕ, zero, suc, _+_, _-_, _/_, _^_, _≤_, _<_}
-use native.Mathlib.Nat.{le-of-eq, sub-zero, lt-of-lt-of-le}
+use native.Mathlib.Nat.{le-of-eq, sub-zero}
 use native.Mathlib.Omega.{arith}
-use lib.Arith.{digits-lt}
-use lib.ListN.{length, getD, take, drop, length-drop, drop-of-length-le}
-use lib.Pow.{pow-pos, pow-add, split, high, low}
+use lib.ListN.{length, getD, take, drop, replicate, length-drop, drop-of-length-le}
+use lib.Pow.{pow-pos, split, high, low}
 use lib.Seq.{length-take-le, take-all}
-use Rattle.wide.specs.Numbers.{two, numbers, room, width, wordsOf}
-use Rattle.wide.proofs.Blocks.{length-half}
+use Rattle.wide.specs.Numbers.{two, numbers, room, lines, wordsOf}
+use Rattle.wide.proofs.Blocks.{length-half, two-fits}
 
 -- one term more takes two words more
 one-more : (m : ℕ) → room (suc m) ≡ suc (suc (room m))
@@ -81,6 +80,12 @@ pub numbers-rest-lent : (a : ℕ) (ws : List ℕ)
 numbers-rest-lent a ws =
     numbers-rest a ws ∙ sym (take-all (length (numbers ws) - a) (drop a (numbers ws)) (le-of-eq (length-drop a (numbers ws))))
 
+-- words that are all 0 hold the term 1 alone
+pub numbers-zeros : (n : ℕ) → numbers (replicate (room n) 0) ≡ replicate n 0
+unfolding numbers
+numbers-zeros zero = refl
+numbers-zeros (suc n) = ap (λ (k : ℕ). numbers (replicate k 0)) (one-more n) ∙ ap (λ (l : List ℕ). 0 ∷ l) (numbers-zeros n)
+
 -- terms behind terms
 pub numbers-append : (k : ℕ) (xs ys : List ℕ) → length xs ≡ room k → numbers (xs ++ ys) ≡ numbers xs ++ numbers ys
 unfolding numbers
@@ -127,12 +132,12 @@ numbers-rest-written a ws ys fits =
     none : drop (length ws - room a) (drop (room a) ws) ≡ []
     none = drop-of-length-le (drop (room a) ws) (le-of-eq (length-drop (room a) ws))
 
--- the terms in words have no variable beyond the width
-pub numbers-fit : (ws : List ℕ) → ((i : ℕ) → getD ws i 0 < 2 ^ 64) → (i : ℕ) → getD (numbers ws) i 0 < 2 ^ width
+-- the terms in words have no variable beyond the last
+pub numbers-fit : (ws : List ℕ) → ((i : ℕ) → getD ws i 0 < 2 ^ 64) → (i : ℕ) → getD (numbers ws) i 0 < 2 ^ lines
 unfolding numbers
-numbers-fit [] f i = pow-pos width
-numbers-fit (x ∷ []) f i = pow-pos width
-numbers-fit (x ∷ (y ∷ ws)) f zero = lt-of-lt-of-le (digits-lt (f 1) (f 0)) (le-of-eq (sym (pow-add 2 64 64)))
+numbers-fit [] f i = pow-pos lines
+numbers-fit (x ∷ []) f i = pow-pos lines
+numbers-fit (x ∷ (y ∷ ws)) f zero = two-fits x y (f 0) (f 1)
 numbers-fit (x ∷ (y ∷ ws)) f (suc i) = numbers-fit ws (λ j. f (suc (suc j))) i
 
 -- terms laid out in words are those terms

@@ -1,3 +1,4 @@
 pub mod Blocks
 pub mod Laws
 pub mod Places
+pub mod Fields

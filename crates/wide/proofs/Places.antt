@@ -1,4 +1,5 @@
--- The laws of lists of terms in words once more, for code that reckons a place `x = words(a)` first and lends from there. The smaller size has
+-- Made from crates/narrow/proofs/Places.antt by scripts/second-size, and not to be edited.
+-- The laws of lists of terms in words once more, for code that reckons a place `x = words(a)` first and lends from there. The larger size has
 -- the same text. Leans on Laws.antt. Assumes nothing.
 use mathlib.Core.Path.{_≡_, ap, ap₂, _∙_}
 use mathlib.Core.List.{List, _++_}

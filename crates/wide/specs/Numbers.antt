@@ -21,9 +21,9 @@ numbers (low ∷ (high ∷ ws)) = two low high ∷ numbers ws
 abbrev pub room : ℕ → ℕ
 room n = 2 * n
 
--- how many variables there are
-abbrev pub width : ℕ
-width = 128
+-- how many variables there are: the input lines of a board
+abbrev pub lines : ℕ
+lines = 128
 
 -- terms laid out in words
 unfoldable pub wordsOf : List ℕ → List ℕ

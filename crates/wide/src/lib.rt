@@ -1,17 +1,27 @@
 // A term in two words, the low one first, and lists of terms in words: the larger of the two sizes. The smaller one, a word to a
 // term, has the same names and the same contracts, so that whatever is written against the one is written against the other.
 ghost use mathlib.Core.Path.{_≡_};
-ghost use Prim.Native.Nat.{_-_, _<_, _^_};
+ghost use Prim.Native.Nat.{_+_, _-_, _*_, _%_, _^_, _≤_, _<_};
 ghost use lib.Bits.{bitAnd, bitOr, bitXor};
 ghost use lib.Dec.{ltb, eqb};
 ghost use lib.ListN.{length, getD, set};
-ghost use Rattle.masks.specs.Bit.{without};
-ghost use Rattle.wide.specs.Numbers.{value, numbers, room};
+ghost use Rattle.digits.specs.Number.{bits};
+ghost use Rattle.digits.specs.Carry.{Put};
+ghost use Rattle.masks.specs.Bit.{bit, without};
+ghost use Rattle.masks.specs.Width.{width};
+ghost use Rattle.wide.specs.Numbers.{value, numbers, room, lines};
 
 // A term: the set of its variables. A set of variables is written the same way.
 pub struct Term {
     pub low: u64,
     pub high: u64,
+}
+
+impl Term {
+    // A variable number is below this.
+    pub const LINES: usize = 128;
+    // How many words a term takes.
+    pub const WORDS: usize = 2;
 }
 
 // How many terms stand in the words.
@@ -54,6 +64,13 @@ pub fn none() -> Term
     ensures { λ r. ⌜ value r ≡ 0 ⌝ }
 {
     Term { low: 0, high: 0 }
+}
+
+// The set whose number is a word.
+pub fn of(word: u64) -> Term
+    ensures { λ r. ⌜ value r ≡ word ⌝ }
+{
+    Term { low: word, high: 0 }
 }
 
 // The variables of either: the product of two terms that share none.
@@ -143,4 +160,72 @@ pub fn lowest(set: Term) -> Term
         };
     }
     Term { low: 0, high: 0 }
+}
+
+// Whether variable k is in t.
+pub fn holds(t: Term, k: u64) -> bool
+    requires { ⌜ k < lines ⌝ }
+    ensures { λ r. ⌜ r ≡ bit (value t) k ⌝ }
+{
+    if k < 64 {
+        return (t.low >> k) & 1 == 1;
+    }
+    (t.high >> (k - 64)) & 1 == 1
+}
+
+// The variables of t below k.
+pub fn low(t: Term, k: u64) -> Term
+    requires { ⌜ k ≤ lines ⌝ }
+    ensures { λ r. ⌜ value r ≡ value t % 2 ^ k ⌝ }
+{
+    if k < 64 {
+        return Term {
+            low: t.low & ((1 << k) - 1),
+            high: 0,
+        };
+    }
+    if k < 128 {
+        return Term {
+            low: t.low,
+            high: t.high & ((1 << (k - 64)) - 1),
+        };
+    }
+    t
+}
+
+// One more than the highest variable, 0 for the empty set.
+pub fn top(set: Term) -> u64
+    ensures { λ r. ⌜ r ≡ width (value set) ⌝ }
+{
+    if set.high == 0 {
+        return 64 - (u64::leading_zeros(set.low) as u64);
+    }
+    64 + (64 - (u64::leading_zeros(set.high) as u64))
+}
+
+// The field of n bits at bit `at` of a row of bytes, as a term.
+pub fn field(bytes: &[u8], at: usize, n: usize) -> Term
+    requires { ⌜ (n ≤ lines) × (at + n < 2 ^ 64) × (at + n ≤ 8 * length (now bytes)) ⌝ }
+    ensures { λ r. ⌜ value r ≡ bits (now (bytes .entry)) at n ⌝ }
+{
+    if n <= 64 {
+        let low = digits::field(bytes, at, n);
+        return Term { low, high: 0 };
+    }
+    let high = digits::field(bytes, at, n - 64);
+    let low = digits::field(bytes, at + (n - 64), 64);
+    Term { low, high }
+}
+
+// Puts the n bits of a term behind the bits that stand before bit `at`. Those of them that fill no byte yet are lent as `carry`, and what
+// fills no byte afterwards comes back.
+pub fn put_field(out: &mut [u8], at: usize, carry: u64, t: Term, n: usize) -> u64
+    requires { ⌜ (carry < 2 ^ (at % 8)) × (value t < 2 ^ n) × (n ≤ lines) × (at + n < 2 ^ 64) × (at + n ≤ 8 * length (now out)) ⌝ }
+    ensures { λ r. ⌜ Put (now (out .entry)) at carry (value t) n (now (out .exit)) r ⌝ }
+{
+    if n <= 64 {
+        return digits::put(out, at, carry, t.low, n);
+    }
+    let left = digits::put(out, at, carry, t.high, n - 64);
+    digits::put(out, at + (n - 64), left, t.low, 64)
 }

@@ -14,15 +14,6 @@ polynomial-n-requires c κs =
 pub body-checks-spec : {M : Type 1} → statement M
 body-checks-spec =
     tie.close
-    (tie.spec
-    (λ c κs. search needs)
-    (λ c. search checking depth 12)
-    (λ c. search checking depth 12)
-    (λ c. search checking depth 12)
-    (λ c κs. search needs)
-    (λ c. search checking depth 12)
-    polynomial-n-requires
-    (λ c. search checking depth 12)
-    (λ c κs. search needs)
-    (λ c. search checking depth 12)
-    (λ c. search checking depth 12))
+    (tie.spec (λ c κs. search needs) (λ c. search checking depth 12) (λ c. search checking depth 12) (λ c. search checking depth 12)
+    (λ c κs. search needs) (λ c. search checking depth 12) polynomial-n-requires (λ c. search checking depth 12) (λ c κs. search needs)
+    (λ c. search checking depth 12) (λ c. search checking depth 12))

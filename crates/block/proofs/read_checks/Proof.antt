@@ -2,7 +2,8 @@
 use native.Mathlib.Omega.{arith}
 use borrow.Author.Needs.{needs}
 use Rattle.answer.proofs.Checking.{checking}
-use Rattle.block.proofs.Reading.{few-bits, body-checked}
+use Rattle.packing.proofs.Terms.{few-bits}
+use Rattle.block.proofs.Reading.{body-checked}
 use Rattle.block.proofs.read_checks.Statement.{statement}
 use Rattle.block.proofs.read_checks.Tie as tie
 
@@ -12,13 +13,6 @@ body-checks-requires c κs = omega (arith, few-bits (c .before .before .before .
 pub read-checks-spec : {M : Type 1} → statement M
 read-checks-spec =
     tie.close
-    (tie.spec
-    (λ c. search checking depth 12)
-    (λ c κs. search needs)
-    (λ c. search checking depth 12)
-    (λ c κs. search needs)
-    (λ c. search checking depth 12)
-    (λ c κs. search needs)
-    (λ c. search checking depth 12)
-    body-checks-requires
+    (tie.spec (λ c. search checking depth 12) (λ c κs. search needs) (λ c. search checking depth 12) (λ c κs. search needs)
+    (λ c. search checking depth 12) (λ c κs. search needs) (λ c. search checking depth 12) body-checks-requires
     (λ c. search (checking, body-checked) depth 12))

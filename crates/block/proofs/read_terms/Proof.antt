@@ -4,13 +4,15 @@ use borrow.Author.Needs.{needs}
 use lib.ListN.{length}
 use mathlib.Core.Path.{ap₂}
 use Prim.Native.Nat.{_*_}
-use Rattle.block.proofs.Reading.{few-bits, Readable, readable, terms-written}
+use Rattle.narrow.specs.Numbers.{numbers}
+use Rattle.packing.proofs.Terms.{few-bits}
+use Rattle.block.proofs.Reading.{Readable, readable, terms-written}
 use Rattle.block.proofs.read_terms.Statement.{statement}
 use Rattle.block.proofs.read_terms.Tie as tie
 
 -- what the checks have told
-told : (s : tie.Start) → Readable 1024 64 (s .args .bytes .now) (length (s .args .out .now))
-told s = readable 1024 64 (s .args .bytes .now) (length (s .args .out .now)) (s .pre)
+told : (s : tie.Start) → Readable 1024 64 (s .args .bytes .now) (length (numbers (s .args .out .now)))
+told s = readable 1024 64 (s .args .bytes .now) (length (numbers (s .args .out .now))) (s .pre)
 
 field-requires : tie.Need-field-requires
 field-requires c κs = omega (arith, told (c .before .before) .whole)
@@ -25,10 +27,10 @@ unpack-requires c κs =
     let t = c .before .field2 in
     omega (
       arith,
-      few-bits (n .result) (t .result) (omega (arith, n .ensures, r .narrow)) (omega (arith, t .ensures, r .few)),
+      few-bits (n .result) (t .result) (omega (arith, n .ensures, r .in-range)) (omega (arith, t .ensures, r .few)),
       ap₂ _*_ (n .ensures) (t .ensures),
       n .ensures,
-      r .narrow,
+      r .in-range,
       r .whole,
       t .ensures,
       r .fits,
@@ -37,9 +39,4 @@ unpack-requires c κs =
 pub read-terms-spec : {M : Type 1} → statement M
 read-terms-spec =
     tie.close
-    (tie.spec
-    field-requires
-    field-requires-2
-    unpack-requires
-    (λ c. search needs)
-    (λ c. search terms-written))
+    (tie.spec field-requires field-requires-2 unpack-requires (λ c. search needs) (λ c. search terms-written))

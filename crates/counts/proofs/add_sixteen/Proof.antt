@@ -2,25 +2,26 @@
 use native.Mathlib.Omega.{arith}
 use borrow.Author.Needs.{needs}
 use Prim.Native.Nat.{ℕ, _+_}
-use mathlib.Core.Path.{_≡_, ap}
-use lib.ListN.{drop}
-use Rattle.counts.specs.Planes.{holding}
+use Rattle.narrow.specs.Numbers.{value, numbers}
+use Rattle.narrow.proofs.Laws.{room-fits}
+use Rattle.counts.proofs.Terms.{from}
 use Rattle.counts.proofs.add_sixteen.Statement.{statement}
 use Rattle.counts.proofs.add_sixteen.Tie as tie
 
 returns : tie.Need-returns
 returns c = λ (v : ℕ).
-    let first = c .before .before in
+    let sum = c .before .before .before .before .before in
+    let first = sum .before .before in
     let a = first .before .before .args in
-    let behind : a .i + 8 + 8 ≡ a .i + 16 = omega arith in
     omega (
       arith,
-      c .add .ensures v,
-      c .before .add-eight2 .ensures v,
+      sum .add .ensures v,
+      sum .before .add-eight2 .ensures v,
       first .add-eight .ensures v,
-      ap (λ (i : ℕ). holding (a .x) (drop i (a .f .now)) v) behind,
+      from (value (a .x)) (numbers (a .f .now)) (a .i + 8 + 8) (a .i + 16) v (omega arith),
     )
 
 pub add-sixteen-spec : {M : Type 1} → statement M
 add-sixteen-spec =
-    tie.close (tie.spec (λ c κs. search needs) (λ c. search needs) (λ c κs. search needs) (λ c κs. search needs) returns)
+    tie.close
+    (tie.spec (λ c κs. search needs) (λ c. search (needs, room-fits (c .before .before .args .f .now))) (λ c κs. search needs) (λ c κs. search needs) returns)

@@ -1,13 +1,19 @@
 -- The proof of the four-list test and the cross test, one cycle of calls. The number of variables left falls from the one to the
 -- other and back; between them each function stands below the one that calls it. Every answer is one law of Uncut, Lent,
 -- Halved, Ways or Shapes, which `search` puts together with the facts of its place. Assumes nothing.
-use Rattle.cross.proofs.Uncut.{same-if-vanishing, differ-if-one-vanishes, four-runs, Skips, differ-if-uneven, four-left, same-if-left, same-if-none-left, same-if-alike, same-if-alike-other, same-if-lone-ab, same-if-lone-ac, same-if-lone-db, same-if-lone-dc, four-below, same-if-below}
-use Rattle.cross.proofs.Lent.{halves-lent, same-of-lent}
+use Rattle.cross.proofs.Uncut.{one-counted, none-counted, some-counted, not-none-counted, same-if-vanishing, differ-if-one-vanishes, four-runs, Skips, differ-if-uneven, four-left, same-if-left, same-if-none-left, same-if-alike, same-if-alike-other, same-if-lone-ab, same-if-lone-ac, same-if-lone-db, same-if-lone-dc, four-below, same-if-below}
+use Rattle.cross.proofs.Lent.{Parts, parts-at, Cuts, halves-lent, same-of-lent}
 use Rattle.cross.proofs.Halved.{both-by-second, differ-if-first-fails, halves-swapped, joined-swapped, ratios-second, ratios-third, runs-second, runs-third, ratio-from-second, ratio-from-third, ratio-turned-round}
 use Rattle.cross.proofs.Ways.{stands-off, stands-by-one, stands-by-both, eight-of, mirrored-of, eight-swapped, ratios-of, ratios-of-other, stands-by-other, first-holds, first-holds-swapped, agree-one-way, agree-other-way, differ-if-none, differ-if-apart, differ-if-neither, joined-if-agree, joined-if-mirrored}
 use Rattle.cross.proofs.Shapes.{paired-straight, paired-crosswise, differ-if-unpaired, ratios-if-free, ratios-if-divided, ratios-if-free-other, ratios-if-divided-other, opposed-if-free, opposed-if-divided, opposed-if-free-other, opposed-if-divided-other, whole-if-mixed}
 use borrow.Author.Needs.{needs}
-use Prim.Native.Nat.{ℕ, _+_, _*_, _<_}
+use mathlib.Core.Path.{_≡_}
+use mathlib.Core.List.{List}
+use Prim.Native.Nat.{ℕ, _+_, _-_, _*_, _<_}
+use lib.ListN.{length, take, drop}
+use Rattle.narrow.specs.Numbers.{numbers, room}
+use Rattle.narrow.proofs.Places.{front-at, rest-at}
+use Rattle.ring.specs.Run.{Cut, lacking}
 use borrow.Fn.Kinds.{In}
 use borrow.Fn.PlainCycle.{Measures, is, falls, and}
 use Rattle.cross.proofs.both.Kinds as both-kinds
@@ -41,6 +47,9 @@ use Rattle.cross.proofs.unlike.Reads as unlike
 use Rattle.cross.proofs.+against+agree+both+compared+cross+halves+opposed+ratios+same+settle+skip+stand+unlike+whole.Lts-unlike as unlike-lts
 use Rattle.cross.proofs.whole.Reads as whole
 use Rattle.cross.proofs.+against+agree+both+compared+cross+halves+opposed+ratios+same+settle+skip+stand+unlike+whole.Lts-whole as whole-lts
+use Rattle.narrow.proofs.at.Reads as at-reads
+use Rattle.narrow.proofs.count.Reads as count-reads
+use Rattle.narrow.proofs.words.Reads as words-reads
 use Rattle.runs.proofs.alike.Reads as alike-reads
 use Rattle.runs.proofs.clash.Reads as clash-reads
 use Rattle.runs.proofs.cut.Reads as cut-reads
@@ -48,6 +57,7 @@ use Rattle.runs.proofs.left.Reads as left-reads
 use Rattle.runs.proofs.matched.Reads as matched-reads
 use Rattle.runs.proofs.pairing.Reads as pairing-reads
 use Rattle.runs.proofs.shape_of.Reads as shape-of-reads
+use Rattle.runs.proofs.size.Reads as size-reads
 use Rattle.runs.proofs.vanish.Reads as vanish-reads
 use Rattle.runs.proofs.vary.Reads as vary-reads
 use Rattle.runs.proofs.within.Reads as within-reads
@@ -95,12 +105,46 @@ both-closed t =
     (λ c κs. search needs) (λ c κs. search needs) (λ c. search both-by-second) (λ c. search differ-if-first-fails)
 
 abbrev cross-calls : ℕ → cross-lts.Claims
-cross-calls t = (cut-reads.Asked, cut-reads.Learnt, below₈ 9 halves.Pre t, halves.Post)
+cross-calls t = (cut-reads.Asked, cut-reads.Learnt, words-reads.Asked, words-reads.Learnt, below₈ 9 halves.Pre t, halves.Post)
+
+-- the terms before and from the word x on, as they are lent
+abbrev front : ℕ → List ℕ → List ℕ
+front x ws = numbers (take (x - 0) ws)
+
+abbrev rest : ℕ → List ℕ → List ℕ
+rest x ws = numbers (take (length ws - x) (drop x ws))
+
+lent : {k : ℕ} (i x : ℕ) (ws : List ℕ) → Cut k (numbers ws) → i ≡ length (lacking k (numbers ws)) → x ≡ room i
+    → Parts k (numbers ws) (front x ws) (rest x ws)
+lent i x ws cut e f = parts-at i cut e (front-at i x ws f) (rest-at i x ws f)
+
+-- what is known once the lists are cut
+cuts : (t : ℕ) (c : cross-lts.After-halves-arg8 (cross-calls t) (at₄ 10 cross.Pre t) cross.Post) →
+    let last = c .before .before .before .before .before .before .before .before in
+    let first = last .before .before .before .before .before .before in
+    let e = first .before .before .before .before .before .before .args in
+    Cuts (e .k) (numbers (e .a .now)) (numbers (e .d .now)) (numbers (e .b .now)) (numbers (e .c .now))
+    (front (first .words .result) (e .a .now)) (rest (first .words .result) (e .a .now))
+    (front (last .before .before .before .before .words2 .result) (e .d .now)) (rest (last .before .before .before .before .words2 .result) (e .d .now))
+    (front (last .before .before .words3 .result) (e .b .now)) (rest (last .before .before .words3 .result) (e .b .now))
+    (front (last .words4 .result) (e .c .now)) (rest (last .words4 .result) (e .c .now))
+cuts t c =
+    let last = c .before .before .before .before .before .before .before .before in
+    let third = last .before .before in
+    let second = third .before .before in
+    let first = second .before .before in
+    let f = first .before .before .before .before .before .before .pre .1 .1 in record {
+      four = f;
+      of-a = lent (first .before .cut .result) (first .words .result) _ (f .run-a .0) (first .before .cut .ensures .0) (first .words .ensures);
+      of-d = lent (second .before .cut2 .result) (second .words2 .result) _ (f .run-d .0) (second .before .cut2 .ensures .0) (second .words2 .ensures);
+      of-b = lent (third .before .cut3 .result) (third .words3 .result) _ (f .run-b .0) (third .before .cut3 .ensures .0) (third .words3 .ensures);
+      of-c = lent (last .before .cut4 .result) (last .words4 .result) _ (f .run-c .0) (last .before .cut4 .ensures .0) (last .words4 .ensures);
+    }
 
 cross-closed : {M : Type 1} (t : ℕ) → cross-lts.Closed (cross-calls t) (at₄ 10 cross.Pre t) cross.Post M
 cross-closed t =
     cross-lts.spec (cross-calls t) (at₄ 10 cross.Pre t) cross.Post
-    (λ c κs. (search needs, search needs)) (λ c κs. (search needs, search needs)) (λ c κs. (search needs, search needs)) (λ c κs. (search needs, search needs)) (λ c. search needs) (λ c. search needs) (λ c. search needs) (λ c. search needs) (λ c. search needs) (λ c. search needs) (λ c. search needs) (λ c. search needs) (λ c. search needs) (λ c. search needs) (λ c. search needs) (λ c. search needs) (λ c. search needs) (λ c. search needs) (λ c. search needs) (λ c. search needs) (λ c. search needs) (λ c. search needs) (λ c. search needs) (λ c. search needs) (λ c. search needs) (λ c. search needs) (λ c. search needs) (λ c. search needs) (λ c. search needs) (λ c. search needs) (λ c. search needs) (λ c. search needs) (λ c κs. (search needs, (search needs, search halves-lent))) (λ c. search same-of-lent)
+    (λ c κs. (search needs, search needs)) (λ c κs. search needs) (λ c κs. (search needs, search needs)) (λ c κs. search needs) (λ c κs. (search needs, search needs)) (λ c κs. search needs) (λ c κs. (search needs, search needs)) (λ c κs. search needs) (λ c. search needs) (λ c. search needs) (λ c. search needs) (λ c. search needs) (λ c. search needs) (λ c. search needs) (λ c. search needs) (λ c. search needs) (λ c. search needs) (λ c. search needs) (λ c. search needs) (λ c. search needs) (λ c. search needs) (λ c. search needs) (λ c. search needs) (λ c. search needs) (λ c. search needs) (λ c. search needs) (λ c. search needs) (λ c. search needs) (λ c. search needs) (λ c. search needs) (λ c. search needs) (λ c. search needs) (λ c. search needs) (λ c. search needs) (λ c. search needs) (λ c. search needs) (λ c κs. (search needs, (search needs, halves-lent (cuts t c)))) (λ c. same-of-lent (cuts t (c .before)) (c .halves .result) (c .halves .ensures))
 
 abbrev halves-calls : ℕ → halves-lts.Claims
 halves-calls t = (shape-of-reads.Asked, shape-of-reads.Learnt, pairing-reads.Asked, pairing-reads.Learnt, below₈ 8 opposed.Pre t, opposed.Post)
@@ -111,28 +155,42 @@ halves-closed t =
     (λ c κs. search needs) (λ c κs. search needs) (λ c κs. search needs) (λ c κs. search needs) (λ c κs. search needs) (λ c κs. (search needs, (search needs, paired-straight (c .before .pairing .ensures) (c .if1 .taken) (search) (search) (search) (search)))) (λ c. search needs) (λ c κs. (search needs, ((search needs, search halves-swapped), paired-crosswise (c .before .before .pairing .ensures) (c .if2 .taken) (search) (search) (search) (search)))) (λ c. search joined-swapped) (λ c. search differ-if-unpaired)
 
 abbrev opposed-calls : ℕ → opposed-lts.Claims
-opposed-calls t = (below₆ 6 ratios.Pre t, ratios.Post, below₈ 7 whole.Pre t, whole.Post)
+opposed-calls t = (count-reads.Asked, count-reads.Learnt, below₆ 6 ratios.Pre t, ratios.Post, below₈ 7 whole.Pre t, whole.Post)
 
 opposed-closed : {M : Type 1} (t : ℕ) → opposed-lts.Closed (opposed-calls t) (at₈ 8 opposed.Pre t) opposed.Post M
 opposed-closed t =
     opposed-lts.spec (opposed-calls t) (at₈ 8 opposed.Pre t) opposed.Post
-    (λ c κs. (search needs, (search needs, search ratios-if-free))) (λ c. search opposed-if-free) (λ c κs. (search needs, (search needs, search ratios-if-divided))) (λ c. search opposed-if-divided) (λ c κs. (search needs, (search needs, search ratios-if-free-other))) (λ c. search opposed-if-free-other) (λ c κs. (search needs, (search needs, search ratios-if-divided-other))) (λ c. search opposed-if-divided-other) (λ c κs. (search needs, (search needs, search whole-if-mixed))) (λ c. search needs)
+    (λ c κs. search needs) (λ c κs. (search needs, (search needs, search (ratios-if-free, none-counted)))) (λ c. search (opposed-if-free, none-counted)) (λ c κs. search needs) (λ c κs. (search needs, (search needs, search (ratios-if-divided, none-counted)))) (λ c. search (opposed-if-divided, none-counted)) (λ c κs. search needs) (λ c κs. (search needs, (search needs, search (ratios-if-free-other, none-counted)))) (λ c. search (opposed-if-free-other, none-counted)) (λ c κs. search needs) (λ c κs. (search needs, (search needs, search (ratios-if-divided-other, none-counted)))) (λ c. search (opposed-if-divided-other, none-counted))
+    (λ c κs.
+    let far = c .before .before .before .before in
+    let a₁ = not-none-counted (far .before .before .before .count .ensures) (far .before .before .if1 .left) in
+    let a₀ = not-none-counted (far .before .count2 .ensures) (far .if2 .left) in
+    let d₁ = not-none-counted (c .before .before .before .count3 .ensures) (c .before .before .if3 .left) in
+    let d₀ = not-none-counted (c .before .count4 .ensures) (c .if4 .left) in
+    (search needs, (search needs, search whole-if-mixed)))
+    (λ c. search needs)
 
 abbrev against-calls : ℕ → against-lts.Claims
-against-calls t = (below₈ 4 both.Pre t, both.Post)
+against-calls t = (size-reads.Asked, size-reads.Learnt, below₈ 4 both.Pre t, both.Post)
 
 against-closed : {M : Type 1} (t : ℕ) → against-lts.Closed (against-calls t) (at₆ 5 against.Pre t) against.Post M
 against-closed t =
     against-lts.spec (against-calls t) (at₆ 5 against.Pre t) against.Post
-    (λ c. search needs) (λ c. search needs) (λ c κs. (search needs, ((search needs, search runs-third), search runs-second))) (λ c. search ratio-turned-round) (λ c κs. (search needs, ((search needs, search runs-second), search runs-third))) (λ c. search needs)
+    (λ c κs. search needs) (λ c κs. search needs) (λ c κs. (search needs, ((search needs, search runs-third), search runs-second))) (λ c. search ratio-turned-round) (λ c κs. (search needs, ((search needs, search runs-second), search runs-third))) (λ c. search needs)
 
 abbrev ratios-calls : ℕ → ratios-lts.Claims
-ratios-calls t = (below₆ 5 against.Pre t, against.Post)
+ratios-calls t = (size-reads.Asked, size-reads.Learnt, count-reads.Asked, count-reads.Learnt, below₆ 5 against.Pre t, against.Post)
 
 ratios-closed : {M : Type 1} (t : ℕ) → ratios-lts.Closed (ratios-calls t) (at₆ 6 ratios.Pre t) ratios.Post M
 ratios-closed t =
     ratios-lts.spec (ratios-calls t) (at₆ 6 ratios.Pre t) ratios.Post
-    (λ c. search needs) (λ c. search needs) (λ c. search needs) (λ c κs. (search needs, (search needs, search ratios-second))) (λ c. search ratio-from-second) (λ c κs. (search needs, (search needs, search ratios-third))) (λ c. search ratio-from-third) (λ c κs. search needs) (λ c. search needs)
+    (λ c κs. search needs) (λ c κs. search needs) (λ c κs. search needs) (λ c κs. search needs)
+    (λ c κs. let some = some-counted (c .before .before .before .count .ensures) (c .before .before .if1 .taken) in (search needs, (search needs, search ratios-second)))
+    (λ c. let some = some-counted (c .before .before .before .before .count .ensures) (c .before .before .before .if1 .taken) in search ratio-from-second)
+    (λ c κs. search needs)
+    (λ c κs. let some = some-counted (c .before .before .count2 .ensures) (c .before .if4 .taken) in (search needs, (search needs, search ratios-third)))
+    (λ c. let some = some-counted (c .before .before .before .count2 .ensures) (c .before .before .if4 .taken) in search ratio-from-third)
+    (λ c κs. search needs) (λ c. search needs)
 
 abbrev same-calls : ℕ → same-lts.Claims
 same-calls t = (vanish-reads.Asked, vanish-reads.Learnt, below₄ 2 settle.Pre t, settle.Post)
@@ -143,12 +201,20 @@ same-closed t =
     (λ c κs. search needs) (λ c κs. search needs) (λ c. search same-if-vanishing) (λ c κs. search needs) (λ c. search differ-if-one-vanishes) (λ c κs. (search needs, (search needs, search four-runs))) (λ c. search needs)
 
 abbrev settle-calls : ℕ → settle-lts.Claims
-settle-calls t = (matched-reads.Asked, matched-reads.Learnt, below₄ 1 skip.Pre t, skip.Post)
+settle-calls t = (count-reads.Asked, count-reads.Learnt, at-reads.Asked, at-reads.Learnt, matched-reads.Asked, matched-reads.Learnt, below₄ 1 skip.Pre t, skip.Post)
 
 settle-closed : {M : Type 1} (t : ℕ) → settle-lts.Closed (settle-calls t) (at₄ 2 settle.Pre t) settle.Post M
 settle-closed t =
     settle-lts.spec (settle-calls t) (at₄ 2 settle.Pre t) settle.Post
-    (λ c. search needs) (λ c. search needs) (λ c κs. search needs) (λ c. search same-if-lone-ab) (λ c. search needs) (λ c. search needs) (λ c κs. search needs) (λ c. search same-if-lone-ac) (λ c. search needs) (λ c. search needs) (λ c κs. search needs) (λ c. search same-if-lone-db) (λ c. search needs) (λ c. search needs) (λ c κs. search needs) (λ c. search same-if-lone-dc) (λ c κs. search needs) (λ c. search needs)
+    (λ c κs. search needs) (λ c κs. search needs) (λ c κs. search needs) (λ c κs. search needs) (λ c κs. search needs)
+    (λ c. let told = rw (c .before .before .at .ensures, c .before .at2 .ensures) at (c .matched .ensures) in search (same-if-lone-ab, one-counted))
+    (λ c κs. search needs) (λ c κs. search needs) (λ c κs. search needs) (λ c κs. search needs)
+    (λ c. let told = rw (c .before .before .at3 .ensures, c .before .at4 .ensures) at (c .matched2 .ensures) in search (same-if-lone-ac, one-counted))
+    (λ c κs. search needs) (λ c κs. search needs) (λ c κs. search needs) (λ c κs. search needs) (λ c κs. search needs)
+    (λ c. let told = rw (c .before .before .at5 .ensures, c .before .at6 .ensures) at (c .matched3 .ensures) in search (same-if-lone-db, one-counted))
+    (λ c κs. search needs) (λ c κs. search needs) (λ c κs. search needs) (λ c κs. search needs)
+    (λ c. let told = rw (c .before .before .at7 .ensures, c .before .at8 .ensures) at (c .matched4 .ensures) in search (same-if-lone-dc, one-counted))
+    (λ c κs. search needs) (λ c. search needs)
 
 abbrev skip-calls : ℕ → skip-lts.Claims
 skip-calls t = (vary-reads.Asked, vary-reads.Learnt, left-reads.Asked, left-reads.Learnt, clash-reads.Asked, clash-reads.Learnt, within-reads.Asked, within-reads.Learnt, below₄ 0 unlike.Pre t, unlike.Post)
@@ -157,7 +223,7 @@ skip-calls t = (vary-reads.Asked, vary-reads.Learnt, left-reads.Asked, left-read
 skips : (t : ℕ) (c : skip-lts.After-within (skip-calls t) (at₄ 1 skip.Pre t) skip.Post) →
     let read = c .before .before .before .before in
     let e = read .before .before .before .before .args in
-    Skips (e .k) (c .before .before .left .result) (e .a .now) (e .d .now) (e .b .now) (e .c .now) (c .within .result)
+    Skips (e .k) (c .before .before .left .result) (numbers (e .a .now)) (numbers (e .d .now)) (numbers (e .b .now)) (numbers (e .c .now)) (c .within .result)
 skips t c = record {
   four = search;
   left = rw (c .before .before .before .vary .ensures) at (c .before .before .left .ensures);
@@ -186,12 +252,12 @@ compared-closed t =
     (λ c κs. search needs) (λ c κs. search needs) (λ c. search stands-by-both) (λ c. search stands-by-one) (λ c. search stands-off)
 
 abbrev stand-calls : ℕ → stand-lts.Claims
-stand-calls t = (below₆ 4 compared.Pre t, compared.Post)
+stand-calls t = (size-reads.Asked, size-reads.Learnt, below₆ 4 compared.Pre t, compared.Post)
 
 stand-closed : {M : Type 1} (t : ℕ) → stand-lts.Closed (stand-calls t) (at₈ 5 stand.Pre t) stand.Post M
 stand-closed t =
     stand-lts.spec (stand-calls t) (at₈ 5 stand.Pre t) stand.Post
-    (λ c. search needs) (λ c. search needs) (λ c κs. (search needs, ((search needs, search ratios-of-other), search needs))) (λ c. search stands-by-other) (λ c κs. (search needs, ((search needs, search ratios-of), search needs))) (λ c. search needs)
+    (λ c κs. search needs) (λ c κs. search needs) (λ c κs. (search needs, ((search needs, search ratios-of-other), search needs))) (λ c. search stands-by-other) (λ c κs. (search needs, ((search needs, search ratios-of), search needs))) (λ c. search needs)
 
 abbrev agree-calls : ℕ → agree-lts.Claims
 agree-calls t = (below₄ 3 same.Pre t, same.Post, below₈ 5 stand.Pre t, stand.Post)
@@ -202,12 +268,12 @@ agree-closed t =
     (λ c κs. search needs) (λ c κs. (search needs, (search needs, search first-holds))) (λ c. search agree-one-way) (λ c. search differ-if-apart) (λ c κs. (search needs, ((search needs, search eight-swapped), search first-holds-swapped))) (λ c. search agree-other-way) (λ c. search differ-if-neither) (λ c. search differ-if-none)
 
 abbrev whole-calls : ℕ → whole-lts.Claims
-whole-calls t = (below₈ 6 agree.Pre t, agree.Post)
+whole-calls t = (size-reads.Asked, size-reads.Learnt, below₈ 6 agree.Pre t, agree.Post)
 
 whole-closed : {M : Type 1} (t : ℕ) → whole-lts.Closed (whole-calls t) (at₈ 7 whole.Pre t) whole.Post M
 whole-closed t =
     whole-lts.spec (whole-calls t) (at₈ 7 whole.Pre t) whole.Post
-    (λ c. search needs) (λ c. search needs) (λ c. search needs) (λ c. search needs) (λ c. search needs) (λ c. search needs) (λ c κs. (search needs, (search needs, search mirrored-of))) (λ c. search joined-if-mirrored) (λ c κs. (search needs, (search needs, search eight-of))) (λ c. search joined-if-agree)
+    (λ c κs. search needs) (λ c κs. search needs) (λ c. search needs) (λ c κs. search needs) (λ c κs. search needs) (λ c. search needs) (λ c κs. (search needs, (search needs, search mirrored-of))) (λ c. search joined-if-mirrored) (λ c κs. (search needs, (search needs, search eight-of))) (λ c. search joined-if-agree)
 
 pub +against+agree+both+compared+cross+halves+opposed+ratios+same+settle+skip+stand+unlike+whole-spec : {M : Type 1} → statement M
 +against+agree+both+compared+cross+halves+opposed+ratios+same+settle+skip+stand+unlike+whole-spec =

@@ -2,67 +2,66 @@
 use native.Mathlib.Omega.{arith}
 use borrow.Author.Needs.{needs}
 use Prim.Native.Nat.{_≤_, _-_}
-use mathlib.Core.Path.{_≡_, sym, _∙_}
 use mathlib.Core.Logic.{⊎-elim}
-use lib.Bits.{bitAnd}
-use lib.ListN.{length}
-use Rattle.grow.proofs.Differences.{Seen, seen-none, seen-passed, seen-less, seen-all}
+use Rattle.narrow.specs.Numbers.{value, numbers}
+use Rattle.grow.proofs.Differences.{Seen, seen-none, seen-other, seen-as-much, seen-less, seen-all}
 use Rattle.grow.proofs.least.Statement.{statement}
 use Rattle.grow.proofs.least.Tie as tie
 
 abbrev Inv-loop : tie.InvT-loop
-Inv-loop f y w s t on d₀ i₀ d i = (i ≤ length f) × (on ≡ bitAnd s y) × Seen f y w (bitAnd s y) t i d
+Inv-loop f y w t n on d₀ i₀ d i = (i ≤ n) × Seen (numbers f) (value y) (value w) (value on) (value t) i (value d)
 
 abbrev μ-loop : tie.MeasureT-loop
-μ-loop f y w s t on d₀ i₀ d i = length f - i
+μ-loop f y w t n on d₀ i₀ d i = n - i
 
 loop-holds : tie.Need-loop-holds Inv-loop μ-loop
 loop-holds c =
-    let a = c .args in
-    (search needs, search needs, seen-none (a .f .now) (a .y) (a .w) (bitAnd (a .s) (a .y)) (a .t))
+    let a = c .before .before .before .args in
+    (search needs, seen-none (numbers (a .f .now)) (value (a .y)) (value (a .w)) (value (c .and .result)) (value (a .t)))
 
 loop-again : tie.Need-loop-again Inv-loop μ-loop
 loop-again c =
-    let here = c .before .before .before .loop in
-    let a = c .before .before .before .before .args in
-    let f = a .f .now in
-    let on = bitAnd (a .s) (a .y) in
+    let asked = c .before .same in
+    let m = c .before .before .and2 in
+    let read = c .before .before .before in
+    let u = read .at in
+    let here = read .before .before .loop in
+    let start = read .before .before .before in
+    let on = value (start .and .result) in
+    let a = start .before .before .before .args in
+    let f = numbers (a .f .now) in
     ⊎-elim
     (λ k. (
       search needs,
-      here .inv .1,
-      rw (k .2) (seen-less f (a .y) (a .w) on (a .t) (here .i) (here .d) (here .inv .2) (k .0 .taken ∙ here .inv .1) (k .1 .taken)),
+      rw (k .5) (seen-less f (value (a .y)) (value (a .w)) on (value (a .t)) (here .i) (value (here .d)) (here .inv .1) (value (u .result))
+          (value (m .result)) (asked .result) (u .ensures) (m .ensures) (asked .ensures) (k .0 .taken) (value (k .1 .result)) (value (k .2 .result))
+          (k .3 .result) (k .1 .ensures) (k .2 .ensures) (k .3 .ensures) (k .4 .taken)),
     ))
     (⊎-elim
     (λ k. (
       search needs,
-      here .inv .1,
-      rw (k .2) (seen-passed f (a .y) (a .w) on (a .t) (here .i) (here .d) (here .inv .2) (λ e. k .1 .left)),
+      rw (k .5) (seen-as-much f (value (a .y)) (value (a .w)) on (value (a .t)) (here .i) (value (here .d)) (here .inv .1) (value (u .result))
+          (value (m .result)) (asked .result) (u .ensures) (m .ensures) (asked .ensures) (k .0 .taken) (value (k .1 .result)) (value (k .2 .result))
+          (k .3 .result) (k .1 .ensures) (k .2 .ensures) (k .3 .ensures) (k .4 .left)),
     ))
     (λ k. (
       search needs,
-      here .inv .1,
-      rw (k .1) (seen-passed f (a .y) (a .w) on (a .t) (here .i) (here .d) (here .inv .2) (λ e. absurd (k .0 .left (e ∙ sym (here .inv .1))))),
+      rw (k .1) (seen-other f (value (a .y)) (value (a .w)) on (value (a .t)) (here .i) (value (here .d)) (here .inv .1) (value (u .result))
+          (value (m .result)) (asked .result) (u .ensures) (m .ensures) (asked .ensures) (k .0 .left)),
     )))
     (c .if1 .came)
 
 returns : tie.Need-returns Inv-loop μ-loop
 returns c =
-    let a = c .before .before .args in
     let here = c .before .loop in
-    let all : here .i ≡ length (a .f .now) = omega arith in
-    seen-all (a .f .now) (a .y) (a .w) (a .s) (a .t) (here .d) (c .before .before .pre) (rw (← all) (here .inv .2))
+    let on = c .before .before in
+    let start = on .before .before .before in
+    let a = start .args in
+    seen-all (numbers (a .f .now)) (value (a .y)) (value (a .w)) (value (a .s)) (value (a .t)) (value (on .and .result)) (here .i) (value (here .d)) (start .pre)
+    (on .and .ensures) (omega (arith, on .before .count .ensures)) (here .inv .1)
 
 pub least-spec : {M : Type 1} → statement M
 least-spec =
     tie.close
-    (tie.spec
-    Inv-loop
-    μ-loop
-    loop-holds
-    (λ c. search needs)
-    (λ c. search needs)
-    (λ c. search needs)
-    (λ c. search needs)
-    loop-again
-    returns)
+    (tie.spec Inv-loop μ-loop (λ c κs. search needs) (λ c κs. search needs) loop-holds (λ c κs. search needs) (λ c κs. search needs)
+    (λ c κs. search needs) (λ c κs. search needs) (λ c κs. search needs) (λ c κs. search needs) (λ c. search needs) (λ c. search needs) loop-again returns)

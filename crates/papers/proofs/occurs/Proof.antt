@@ -4,7 +4,7 @@ use mathlib.Core.Path.{sym, ap, _∙_}
 use lib.Bits.{and-mask}
 use lib.Dec.{eqb}
 use Rattle.masks.proofs.Bits.{bits-above-vanish}
-use Rattle.ring.proofs.Low.{bit-at}
+use Rattle.masks.proofs.Low.{bit-at}
 use Rattle.papers.proofs.occurs.Statement.{statement}
 use Rattle.papers.proofs.occurs.Tie as tie
 use Rattle.papers.proofs.occurs.Reads as reads

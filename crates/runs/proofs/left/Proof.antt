@@ -1,5 +1,6 @@
 -- `runs::left` is the mask's width, or k where that is smaller. Assumes nothing.
 use mathlib.Core.Path.{sym, subst}
+use Rattle.narrow.specs.Numbers.{value}
 use Rattle.runs.specs.Read.{Left}
 use Rattle.runs.proofs.Facts.{left-by-width, left-all}
 use native.Mathlib.Omega.{arith}
@@ -9,11 +10,12 @@ use Rattle.runs.proofs.left.Tie as tie
 
 returns : tie.Need-returns
 returns c =
-    subst (Left (c .before .before .args .m) (c .before .before .args .k)) (sym (c .before .width-of .ensures))
-    (left-by-width (c .before .before .args .m) (c .before .before .args .k) (omega (arith, c .before .width-of .ensures)))
+    let a = c .before .before .args in
+    subst (Left (value (a .m)) (a .k)) (sym (c .before .top .ensures))
+    (left-by-width (value (a .m)) (a .k) (omega (arith, c .before .top .ensures)))
 
 returns-2 : tie.Need-returns-2
-returns-2 c = left-all (c .before .before .args .m) (c .before .before .args .k)
+returns-2 c = left-all (value (c .before .before .args .m)) (c .before .before .args .k)
 
 pub left-spec : {M : Type 1} → statement M
 left-spec = tie.close (tie.spec (λ c κs. search needs) returns returns-2)

@@ -3,9 +3,6 @@ use borrow.Author.Needs.{needs}
 use Rattle.runs.proofs.vary.Statement.{statement}
 use Rattle.runs.proofs.vary.Tie as tie
 
-returns : tie.Need-returns
-returns c = cc (c .before .before .before .turn .ensures, c .before .before .turn2 .ensures, c .before .turn3 .ensures, c .turn4 .ensures)
-
 pub vary-spec : {M : Type 1} → statement M
 vary-spec =
-    tie.close (tie.spec (λ c κs. search needs) (λ c κs. search needs) (λ c κs. search needs) (λ c κs. search needs) returns)
+    tie.close (tie.spec (λ c κs. search needs) (λ c κs. search needs) (λ c κs. search needs) (λ c κs. search needs) (λ c κs. search needs) (λ c κs. search needs) (λ c κs. search needs) (λ c. cc))

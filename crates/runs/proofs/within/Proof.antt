@@ -1,7 +1,8 @@
 -- `runs::within` compares w with the width of the mask's bits below k. Assumes nothing.
 use mathlib.Core.Path.{ap, subst, _∙_}
 use Prim.Native.Nat.{ℕ, _<_, _≤_}
-use Rattle.terms.specs.Width.{width}
+use Rattle.masks.specs.Width.{width}
+use Rattle.narrow.specs.Numbers.{value}
 use Rattle.runs.proofs.Facts.{within-by-width, none-within}
 use borrow.Author.Needs.{needs}
 use Rattle.runs.proofs.within.Statement.{statement}
@@ -9,13 +10,15 @@ use Rattle.runs.proofs.within.Tie as tie
 
 returns : tie.Need-returns
 returns c =
-    within-by-width (c .before .before .before .args .m) (c .before .before .before .args .w) (c .before .before .before .args .k)
-    (subst (λ (n : ℕ). c .before .before .before .args .w < n) (c .before .width-of .ensures ∙ ap width (c .before .before .low .ensures)) (c .if1 .taken))
+    let a = c .before .before .before .args in
+    within-by-width (value (a .m)) (a .w) (a .k)
+    (subst (λ (n : ℕ). a .w < n) (c .before .top .ensures ∙ ap width (c .before .before .low .ensures)) (c .if1 .taken))
 
 returns-2 : tie.Need-returns-2
 returns-2 c =
-    none-within (c .before .before .before .args .m) (c .before .before .before .args .w) (c .before .before .before .args .k)
-    (subst (λ (n : ℕ). n ≤ c .before .before .before .args .w) (c .before .width-of .ensures ∙ ap width (c .before .before .low .ensures)) (c .if1 .left))
+    let a = c .before .before .before .args in
+    none-within (value (a .m)) (a .w) (a .k)
+    (subst (λ (n : ℕ). n ≤ a .w) (c .before .top .ensures ∙ ap width (c .before .before .low .ensures)) (c .if1 .left))
 
 pub within-spec : {M : Type 1} → statement M
 within-spec = tie.close (tie.spec (λ c κs. search needs) (λ c κs. search needs) returns returns-2)

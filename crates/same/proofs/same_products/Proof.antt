@@ -7,9 +7,4 @@ use Rattle.same.proofs.same_products.Tie as tie
 pub same-products-spec : {M : Type 1} → statement M
 same-products-spec =
     tie.close
-    (tie.spec
-    (λ c κs. search needs)
-    (λ c κs. search needs)
-    (λ c. search refusal-handed-on)
-    (λ c κs. search checks-passed)
-    (λ c. search work-done))
+    (tie.spec (λ c κs. search needs) (λ c κs. search needs) (λ c. search refusal-handed-on) (λ c κs. search checks-passed) (λ c. search work-done))

@@ -1,45 +1,35 @@
 -- `differences` collects where a row and a list differ. The invariant: where nothing is collected the first i terms are alike.
 -- Assumes nothing.
 use Prim.Native.Nat.{_≤_, _-_}
-use mathlib.Core.Path.{_≡_, subst}
+use mathlib.Core.Path.{_≡_}
 use native.Mathlib.Omega.{arith}
 use borrow.Author.Needs.{needs}
-use lib.ListN.{length}
+use Rattle.narrow.specs.Numbers.{value, numbers}
 use Rattle.walk.specs.Walk.{Alike}
-use Rattle.walk.proofs.Rows.{none-alike, more-alike}
+use Rattle.walk.proofs.Rows.{none-alike, more-alike, all-alike}
 use Rattle.walk.proofs.differences.Statement.{statement}
 use Rattle.walk.proofs.differences.Tie as tie
 
 abbrev Inv-loop : tie.InvT-loop
-Inv-loop t b f all₀ i₀ all i = (i ≤ length b) × (all ≡ 0 → Alike t b f i)
+Inv-loop t b f n all₀ i₀ all i = (i ≤ n) × (value all ≡ 0 → Alike (value t) (numbers b) (numbers f) i)
 
 abbrev μ-loop : tie.MeasureT-loop
-μ-loop t b f all₀ i₀ all i = length b - i
-
-loop-holds : tie.Need-loop-holds Inv-loop μ-loop
-loop-holds c = search (needs, none-alike)
+μ-loop t b f n all₀ i₀ all i = n - i
 
 loop-again : tie.Need-loop-again Inv-loop μ-loop
-loop-again c = search (needs, more-alike)
-
-returns : tie.Need-returns Inv-loop μ-loop
-returns c =
-    let l = c .before .loop in
-    let a = c .before .before .args in
-    λ e. subst (Alike (a .t) (a .b .now) (a .f .now)) (let n : l .i ≡ length (a .b .now) = omega arith in n) (l .inv .1 e)
+loop-again c =
+    let x = c .before in
+    let u = x .before .before in
+    let l = u .before .before .before in
+    let a = l .before .before .before .before .before .args in (
+      omega arith,
+      more-alike (value (a .t)) (numbers (a .b .now)) (numbers (a .f .now)) (l .loop .i) (value (l .loop .all)) (l .loop .inv .1)
+          (u .before .at .ensures) (u .or .ensures) (x .before .at2 .ensures) (x .xor .ensures) (c .or2 .ensures),
+    )
 
 pub differences-spec : {M : Type 1} → statement M
 differences-spec =
     tie.close
-    (tie.spec
-    Inv-loop
-    μ-loop
-    loop-holds
-    (λ c. search needs)
-    (λ c. search needs)
-    (λ c. search needs)
-    (λ c. search needs)
-    (λ c. search needs)
-    (λ c. search needs)
-    loop-again
-    returns)
+    (tie.spec Inv-loop μ-loop (λ c κs. search needs) (λ c κs. search needs) (λ c. search (needs, none-alike)) (λ c κs. search needs)
+    (λ c κs. search needs) (λ c κs. search needs) (λ c κs. search needs) (λ c κs. search needs) (λ c. search needs) (λ c. search needs) loop-again
+    (λ c. search all-alike))

@@ -1,0 +1,5 @@
+pub mod Copying
+pub mod Taking
+pub mod Splitting
+pub mod Round
+pub mod Next
