@@ -61,13 +61,35 @@ METHOD(read_ours, apfelruder_read(j->block, j->block_bytes, j->words, LONGEST).c
 #ifdef HAVE_WRITE
 METHOD(write_ours, apfelruder_write(LIST(j->a), j->bytes, sizeof j->bytes).count)
 #endif
+#ifdef BEFORE
+#define EARLIER(call) extern __typeof__(apfelruder_##call) before_##call
+EARLIER(read);
+EARLIER(write);
+EARLIER(multiply);
+EARLIER(same_products);
+EARLIER(split);
+METHOD(split_before, before_split(LIST(j->a), SPLIT_ROOM).count)
+METHOD(multiply_before, before_multiply(LIST(j->a), LIST(j->b), j->words, LONGEST).count)
+METHOD(same_before, before_same_products(LIST(j->a), LIST(j->d), LIST(j->b), LIST(j->c)).count)
+METHOD(read_before, before_read(j->block, j->block_bytes, j->words, LONGEST).count)
+METHOD(write_before, before_write(LIST(j->a), j->bytes, sizeof j->bytes).count)
+#endif
 #ifdef HAVE_FLINT
 METHOD(split_flint, flint_split(&j->a))
 METHOD(multiply_flint, flint_multiply(&j->a, &j->b))
 METHOD(same_flint, flint_same(&j->a, &j->d, &j->b, &j->c))
 #endif
 
-/* The methods of each call; the first is what the others are held to. */
+/* The methods of each call; the first is what the others are held to. Beside an earlier library stands nothing else. */
+#ifdef BEFORE
+#define BESIDE(call)                                                                                                  \
+    static const method call##_methods[] = {{"ours", call##_ours, 0, NULL}, {"before", call##_before, 0, NULL}};
+BESIDE(split)
+BESIDE(multiply)
+BESIDE(same)
+BESIDE(read)
+BESIDE(write)
+#else
 static const method split_methods[] = {
 #ifdef HAVE_SPLIT
     {"ours", split_ours, 0, "#1253a4"},
@@ -118,6 +140,7 @@ static const method write_methods[] = {
     {"plain C", write_plain, 0, NULL},
     {"bit by bit, no checks", write_bits, 0, NULL},
 };
+#endif
 #define METHODS(of) of, (int)(sizeof of / sizeof *of)
 
 static job current;
@@ -202,6 +225,14 @@ static void measure_family(const family *f, const method *methods, int columns, 
             double *us = &times[m][measured[m]++];
             if (!timed(&methods[m], methods, &right, f->name, hurried, us)) *us = INFINITY;
         }
+#ifdef BEFORE /* in turns, and the least time of each: a busy moment of the machine would fall on one of the two */
+        for (int turn = 1; turn < 7; turn++)
+            for (int m = 0; m < columns; m++) {
+                double us, *least = &times[m][measured[m] - 1];
+                timed(&methods[m], methods, &right, f->name, 0, &us);
+                if (us < *least) *least = us;
+            }
+#endif
     }
     for (int m = 0; m < columns; m++) median[m] = median_of(times[m], measured[m]);
 }
