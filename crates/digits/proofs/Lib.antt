@@ -2,5 +2,4 @@ pub mod Number
 pub mod Bits
 pub mod Bitwise
 pub mod Bytes
-pub mod Words
 pub mod Writing

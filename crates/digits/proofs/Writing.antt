@@ -23,6 +23,15 @@ pub behind-written : (out old : List ℕ) (i b : ℕ) → drop i out ≡ drop i 
 behind-written out old i b e =
     drop-set-lt (i + 1) out i b (omega arith) ∙ sym (drop-drop 1 i out) ∙ ap (drop 1) e ∙ drop-drop 1 i old
 
+-- two lists that agree from a on agree from any later place on
+pub drop-later : (a b : ℕ) (x y : List ℕ) → a ≤ b → drop a x ≡ drop a y → drop b x ≡ drop b y
+drop-later a b x y h e =
+    ap (λ (k : ℕ). drop k x) {x = b} {y = a + (b - a)} (omega arith)
+    ∙ sym (drop-drop (b - a) a x)
+    ∙ ap (drop (b - a)) e
+    ∙ drop-drop (b - a) a y
+    ∙ ap (λ (k : ℕ). drop k y) {x = a + (b - a)} {y = b} (omega arith)
+
 -- the digits c and h of a byte of p * q, and s behind it
 regroup : (A c h l p q s : ℕ) → (A * (p * q) + (c * q + h)) * l + s ≡ (A * p + c) * (q * l) + (h * l + s)
 regroup A c h l p q s = simp (add-mul, mul-assoc) (omega arith)

@@ -33,13 +33,16 @@ bit-low n (suc k) (suc i) h =
     ∙ ap (λ (m : ℕ). bit m i) (field n k 1)
     ∙ bit-low (n / 2) k i (le-of-suc-le-suc h)
 
+-- 1 shifted by k in a word of w bits
+pub one-shifted : (w k : ℕ) → k < w → (1 * 2 ^ k) % 2 ^ w ≡ 2 ^ k
+one-shifted w k h = shl-exact 1 k w (omega arith) (omega arith) ∙ one-mul (2 ^ k)
+
 -- the bits below k by a mask in a word of w bits, and by the word itself where k is w
 pub low-by-mask : (w x k : ℕ) → k < w → bitAnd x ((1 * 2 ^ k) % 2 ^ w - 1) ≡ x % 2 ^ k
-low-by-mask w x k h =
-    ap (λ (m : ℕ). bitAnd x (m - 1)) (shl-exact 1 k w (omega arith) (omega arith) ∙ one-mul (2 ^ k)) ∙ and-mask x k
+low-by-mask w x k h = ap (λ (m : ℕ). bitAnd x (m - 1)) (one-shifted w k h) ∙ and-mask x k
 
 pub mask-not-zero : (w k : ℕ) → k < w → 1 ≤ (1 * 2 ^ k) % 2 ^ w
-mask-not-zero w k h = subst (λ (m : ℕ). 1 ≤ m) (sym (shl-exact 1 k w (omega arith) (omega arith) ∙ one-mul (2 ^ k))) (pow-pos k)
+mask-not-zero w k h = subst (λ (m : ℕ). 1 ≤ m) (sym (one-shifted w k h)) (pow-pos k)
 
 pub low-of-all : (w x k : ℕ) → x < 2 ^ w → k ≤ w → w ≤ k → x ≡ x % 2 ^ k
 low-of-all w x k h p q =

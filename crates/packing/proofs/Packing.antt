@@ -7,27 +7,19 @@ use native.Mathlib.Numerals.{add-one}
 use native.Mathlib.Omega.{arith}
 use lib.Dec.{lit<}
 use lib.ListN.{length, getD, take, drop, take-append-drop}
-use lib.Seq.{take-suc, take-all, drop-drop, length-take-le}
+use lib.Seq.{take-suc, take-all, length-take-le}
 use lib.Pow.{pow-add}
 use Rattle.terms.specs.Width.{widthOf}
 use Rattle.digits.specs.Number.{num, digits, Below}
 use Rattle.digits.specs.Carry.{held, Put}
 use Rattle.digits.proofs.Number.{num-last, digits-num}
+use Rattle.digits.proofs.Writing.{drop-later}
 use Rattle.packing.specs.Format.{size, headerOf, numberOf, sizeOf, blockOf}
 
 -- no digits
 num-none : (w : ℕ) → num w [] ≡ 0
 unfolding num
 num-none w = refl
-
--- two lists that agree from a on agree from any later place on
-pub drop-later : (a b : ℕ) (x y : List ℕ) → a ≤ b → drop a x ≡ drop a y → drop b x ≡ drop b y
-drop-later a b x y h e =
-    ap (λ (k : ℕ). drop k x) {x = b} {y = a + (b - a)} (omega arith)
-    ∙ sym (drop-drop (b - a) a x)
-    ∙ ap (drop (b - a)) e
-    ∙ drop-drop (b - a) a y
-    ∙ ap (λ (k : ℕ). drop k y) {x = a + (b - a)} {y = b} (omega arith)
 
 -- the header and the first i terms are written
 pub record Packed (terms : List ℕ) (n header : ℕ) (old new : List ℕ) (at carry i : ℕ) : Type 0 where

@@ -6,12 +6,12 @@ use Prim.Native.Nat.{ℕ, zero, suc, _+_, _-_, _*_, _/_, _%_, _^_, _≤_, _<_}
 use native.Mathlib.Nat.{add-assoc, add-mul, mul-assoc, pow-zero, lt-of-lt-of-le}
 use native.Mathlib.Omega.{arith}
 use lib.ListN.{length, drop}
-use lib.Pow.{pow-add, pow-mono, shr-lt}
+use lib.Pow.{pow-mono, shr-lt}
 use lib.Pow.{high as above}
-use lib.Seq.{drop-drop}
 use Rattle.digits.specs.Number.{bits}
 use Rattle.digits.specs.Carry.{held, Put}
 use Rattle.digits.proofs.Bits.{bits-add}
+use Rattle.digits.proofs.Writing.{drop-later, pow-sum}
 
 -- a field of n bits, wider than a word of k, in two pieces
 pub field-joined : (k : ℕ) (bytes : List ℕ) (at n : ℕ) → k < n → at + n ≤ 8 * length bytes
@@ -47,7 +47,7 @@ put-joined k old mid new at carry high low n left last lt p q =
       fits = subst (λ (m : ℕ). last < 2 ^ (m % 8)) whole (q .fits);
       behind =
           subst (λ (m : ℕ). drop (m / 8) new ≡ drop (m / 8) mid) whole (q .behind)
-          ∙ behind-on ((at + (n - k)) / 8) ((at + n) / 8) mid old (omega arith) (p .behind);
+          ∙ drop-later ((at + (n - k)) / 8) ((at + n) / 8) mid old (omega arith) (p .behind);
       same = q .same ∙ p .same;
     }
   where
@@ -57,10 +57,4 @@ put-joined k old mid new at carry high low n left last lt p q =
     powers : held old at carry * 2 ^ (n - k) * 2 ^ k ≡ held old at carry * 2 ^ n
     powers =
         let e : n - k + k ≡ n = omega arith in
-        mul-assoc (held old at carry) (2 ^ (n - k)) (2 ^ k) ∙ ap (λ (m : ℕ). held old at carry * m) (sym (pow-add 2 (n - k) k) ∙ ap (λ (m : ℕ). 2 ^ m) e)
-
-    behind-on : (a b : ℕ) (xs ys : List ℕ) → a ≤ b → drop a xs ≡ drop a ys → drop b xs ≡ drop b ys
-    behind-on a b xs ys h e =
-        let on : a + (b - a) ≡ b = omega arith in
-        let from : (l : List ℕ) → drop b l ≡ drop (b - a) (drop a l) = λ l. ap (λ (m : ℕ). drop m l) (sym on) ∙ sym (drop-drop (b - a) a l) in
-        from xs ∙ ap (drop (b - a)) e ∙ sym (from ys)
+        mul-assoc (held old at carry) (2 ^ (n - k)) (2 ^ k) ∙ ap (λ (m : ℕ). held old at carry * m) (sym (pow-sum (n - k) k n (sym e)))

@@ -5,7 +5,7 @@ use borrow.Author.Needs.{needs}
 use mathlib.Core.Path.{ap, _∙_}
 use Prim.Native.Nat.{ℕ, _+_, _-_, _/_, _%_, _^_}
 use lib.Pow.{pow-pos}
-use Rattle.digits.proofs.Words.{one-shifted, masked}
+use Rattle.masks.proofs.Low.{one-shifted, low-by-mask}
 use Rattle.digits.proofs.piece.Statement.{statement}
 use Rattle.digits.proofs.piece.Tie as tie
 
@@ -25,10 +25,10 @@ shl-result : tie.Need-shl-result
 shl-result c = search needs
 
 sub-result-2 : tie.Need-sub-result-2
-sub-result-2 c = omega (arith, one-shifted (c .before .args .width) (omega arith), pow-pos (c .before .args .width))
+sub-result-2 c = omega (arith, one-shifted 64 (c .before .args .width) (omega arith), pow-pos (c .before .args .width))
 
 returns : tie.Need-returns
-returns c = masked _ (c .before .args .width) (omega arith) ∙ ap (λ (n : ℕ). n / 2 ^ (8 - (c .before .args .skip + c .before .args .width)) % 2 ^ c .before .args .width) (c .wide .ensures)
+returns c = low-by-mask 64 _ (c .before .args .width) (omega arith) ∙ ap (λ (n : ℕ). n / 2 ^ (8 - (c .before .args .skip + c .before .args .width)) % 2 ^ c .before .args .width) (c .wide .ensures)
 
 pub piece-spec : {M : Type 1} → statement M
 piece-spec =

@@ -8,7 +8,7 @@ use lib.ListN.{length-set}
 use lib.Bits.{mask-lt, and-mask}
 use lib.Pow.{pow-pos, pow-mono, shl-exact}
 use Rattle.digits.specs.Carry.{Put}
-use Rattle.digits.proofs.Words.{one-shifted, masked}
+use Rattle.masks.proofs.Low.{one-shifted, low-by-mask}
 use Rattle.digits.proofs.Writing.{Written, written-none, written-more, put-none, put-done, first-byte-fits, joined-below}
 use Rattle.digits.proofs.put.Statement.{statement}
 use Rattle.digits.proofs.put.Tie as tie
@@ -102,7 +102,7 @@ shl-result-2 : tie.Need-shl-result-2 Inv-loop μ-loop
 shl-result-2 c = search needs
 
 sub-result : tie.Need-sub-result Inv-loop μ-loop
-sub-result c = omega (arith, one-shifted (c .before .loop .left) (omega arith), pow-pos (c .before .loop .left))
+sub-result c = omega (arith, one-shifted 64 (c .before .loop .left) (omega arith), pow-pos (c .before .loop .left))
 
 same-length : tie.Need-same-length Inv-loop μ-loop
 same-length c = c .before .loop .inv .same ∙ simp length-set
@@ -112,7 +112,7 @@ returns-2 c =
     let l = c .before .loop in
     let at-start = c .before .before .before .before .before in
     let a = at-start .args in
-    subst (Put (a .out .now) (a .at) (a .carry) (a .x) (a .width) (l .out)) (sym (masked (a .x) (l .left) (omega arith)))
+    subst (Put (a .out .now) (a .at) (a .carry) (a .x) (a .width) (l .out)) (sym (low-by-mask 64 (a .x) (l .left) (omega arith)))
     (put-done 64 (a .out .now) (a .at) (a .carry) (a .x) (a .width) (l .out) (l .left) (l .i) (c .before .before .narrow .result) (at-start .pre .0)
     (omega arith) (omega arith) (omega arith) (omega arith) (c .before .before .narrow .ensures) (l .inv))
 
