@@ -1,12 +1,14 @@
 -- What holds of every promise of the shape Ends, proved once: a refusal leaves every lent buffer, two allowed endings coincide where
 -- acceptance is determined, and accepted is the same as every check passed. Assumes nothing.
 use Prim.Native.Nat.{ℕ, _<_}
-use mathlib.Core.Path.{_≡_, refl, sym, ap, _∙_}
+use mathlib.Core.Path.{_≡_, refl, sym, ap, ap₂, _∙_}
 use mathlib.Core.Bool.{Bool, true, false}
 use mathlib.Core.List.{List, [], _∷_}
 use native.Mathlib.Omega.{arith}
 use borrow.Author.Tests.{ltb-true, ltb-false}
 use lib.Dec.{ltb}
+use lib.ListN.{length, take, drop}
+use lib.Seq.{take-at}
 use Rattle.answer.specs.declared.Answer.{Answer}
 use Rattle.answer.specs.Table.{accepted, refused}
 use Rattle.answer.specs.Ends.{Check, if, over, Ends, Writes}
@@ -97,3 +99,16 @@ passed-if-not-refused (c ∷ cs) answer e h =
 -- acceptance by one list that is written is determined
 pub writes-once : (p old : List ℕ) → Determined (Writes p old)
 writes-once p old m n x y a b = (a .0 ∙ sym (b .0), a .1 ∙ sym (b .1))
+
+-- a call that writes one list, and whose checks pass, counts it and writes it,
+pub passed-writes : (cs : List Check) (p old : List ℕ) (answer : Answer) (new : List ℕ) → Passed cs → Ends cs old (Writes p old) answer new
+    → (answer ≡ accepted (length p)) × (new ≡ over p old)
+passed-writes cs p old answer new passed e =
+    let a = passed-accepts old (Writes p old) cs answer new passed e in (a .1 ∙ ap accepted (a .2 .0), a .2 .1)
+
+-- so as much of the buffer as the answer counts is that list
+pub counted : (cs : List Check) (p old : List ℕ) (answer : Answer) (new : List ℕ) → Passed cs → Ends cs old (Writes p old) answer new
+    → take (answer .count) new ≡ p
+counted cs p old answer new passed e =
+    let w = passed-writes cs p old answer new passed e in
+    ap₂ take (ap (λ (a : Answer). a .count) (w .0)) (w .1) ∙ take-at p (drop (length p) old) (length p) refl

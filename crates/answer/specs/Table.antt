@@ -2,7 +2,7 @@
 use Prim.Native.Nat.{ℕ}
 use Rattle.answer.specs.declared.Answer.{Answer}
 use Rattle.answer.specs.declared.Outcome.{Outcome}
-use Rattle.answer.specs.declared.Outcome.the-variants.{Done, Zero, TooMany, Order, Shared, TooLarge, Room, Work, Form, Wide, Short, Misfit, Extra, Pad}
+use Rattle.answer.specs.declared.Outcome.the-variants.{Done, Zero, TooMany, Order, Shared, TooLarge, Room, Work, Form, Wide, Short, Misfit, Extra, Pad, Sign, Twice}
 
 -- accepted: code 0, operand and place 0
 abbrev pub accepted : ℕ → Answer
@@ -19,7 +19,7 @@ numbersOf Zero = refused 1 1 0
 numbersOf (TooMany operand) = refused 2 operand 0
 numbersOf (Order operand place) = refused 3 operand place
 numbersOf Shared = refused 4 0 0
-numbersOf TooLarge = refused 5 0 0
+numbersOf (TooLarge operand) = refused 5 operand 0
 numbersOf (Room operand) = refused 6 operand 0
 numbersOf Work = refused 7 1 0
 numbersOf Form = refused 8 1 0
@@ -28,3 +28,5 @@ numbersOf Short = refused 10 1 0
 numbersOf Misfit = refused 11 1 0
 numbersOf Extra = refused 12 1 0
 numbersOf Pad = refused 13 1 0
+numbersOf (Sign place) = refused 14 1 place
+numbersOf (Twice place) = refused 15 1 place

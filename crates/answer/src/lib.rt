@@ -20,14 +20,14 @@ pub enum Outcome {
     Done { count: u64 },
     // split of the empty list
     Zero,
-    // a list that is too long, or a block that says so
+    // a list or a text that is too long, or a block that says so
     TooMany { operand: u64 },
     // a term not above the one before it, at its first such index
     Order { operand: u64, place: u64 },
     // a variable in both operands of multiply
     Shared,
-    // the product would be too long
-    TooLarge,
+    // what is to be written would be too long
+    TooLarge { operand: u64 },
     // a lent output is too short
     Room { operand: u64 },
     // split's work area is too short
@@ -44,6 +44,10 @@ pub enum Outcome {
     Extra,
     // a padding bit is set
     Pad,
+    // a text goes on as no equation does, or ends too early
+    Sign { place: u64 },
+    // a variable stands in its term again
+    Twice { place: u64 },
 }
 
 // The numbers of a refusal.
@@ -73,7 +77,7 @@ pub fn numbers(outcome: Outcome) -> Answer
         Outcome::TooMany { operand } => refusal(2, operand, 0),
         Outcome::Order { operand, place } => refusal(3, operand, place),
         Outcome::Shared => refusal(4, 0, 0),
-        Outcome::TooLarge => refusal(5, 0, 0),
+        Outcome::TooLarge { operand } => refusal(5, operand, 0),
         Outcome::Room { operand } => refusal(6, operand, 0),
         Outcome::Work => refusal(7, 1, 0),
         Outcome::Form => refusal(8, 1, 0),
@@ -82,6 +86,8 @@ pub fn numbers(outcome: Outcome) -> Answer
         Outcome::Misfit => refusal(11, 1, 0),
         Outcome::Extra => refusal(12, 1, 0),
         Outcome::Pad => refusal(13, 1, 0),
+        Outcome::Sign { place } => refusal(14, 1, place),
+        Outcome::Twice { place } => refusal(15, 1, place),
     }
 }
 

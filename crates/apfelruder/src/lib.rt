@@ -7,6 +7,7 @@ ghost use Rattle.block.specs.Calls.{ReadEnds, WriteEnds};
 ghost use Rattle.parts.specs.Split.{SplitEnds};
 ghost use Rattle.product.specs.Multiply.{MultiplyEnds};
 ghost use Rattle.same.specs.Same.{SameEnds};
+ghost use Rattle.text.specs.Calls.{ReadTextEnds, WriteTextEnds};
 
 // The irreducible parts of a term list.
 #[no_mangle]
@@ -67,4 +68,27 @@ pub extern "C" fn apfelruder_write(terms: &[u64], out: &mut [u8]) -> Answer
       ⌜ WriteEnds most (now (terms .entry)) (now (out .entry)) r (now (out .exit)) ⌝ }
 {
     answer::numbers(block::write(terms, out))
+}
+
+// A text read into a term list.
+#[no_mangle]
+pub extern "C" fn apfelruder_read_text(text: &[u8], out: &mut [u64]) -> Answer
+    ensures { λ r. do
+      longest ← ⟦text::MAX_BYTES⟧ .entry
+      most ← ⟦TermList::MAX_TERMS⟧ .entry
+      vars ← ⟦TermList::MAX_VARS⟧ .entry
+      ⌜ ReadTextEnds longest most vars (now (text .entry)) (now (out .entry)) r (now (out .exit)) ⌝ }
+{
+    answer::numbers(text::read_text(text, out))
+}
+
+// A term list written as text.
+#[no_mangle]
+pub extern "C" fn apfelruder_write_text(terms: &[u64], out: &mut [u8]) -> Answer
+    ensures { λ r. do
+      longest ← ⟦text::MAX_BYTES⟧ .entry
+      most ← ⟦TermList::MAX_TERMS⟧ .entry
+      ⌜ WriteTextEnds longest most (now (terms .entry)) (now (out .entry)) r (now (out .exit)) ⌝ }
+{
+    answer::numbers(text::write_text(terms, out))
 }

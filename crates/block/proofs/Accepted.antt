@@ -4,13 +4,11 @@ use mathlib.Core.Path.{_≡_, refl, sym, ap, ap₂, _∙_, subst}
 use mathlib.Core.List.{List}
 use Prim.Native.Nat.{ℕ, _≤_}
 use native.Mathlib.Omega.{arith}
-use lib.ListN.{length, take, drop}
-use lib.Seq.{take-at}
+use lib.ListN.{length, take}
 use Rattle.answer.specs.declared.Answer.{Answer}
-use Rattle.answer.specs.Table.{accepted}
-use Rattle.answer.specs.Ends.{Check, Ends, Writes, over}
+use Rattle.answer.specs.Ends.{Writes}
 use Rattle.answer.specs.Checked.{Passed, coded}
-use Rattle.answer.proofs.Ends.{passed-accepts, accepted-passed}
+use Rattle.answer.proofs.Ends.{accepted-passed, counted}
 use Rattle.polys.specs.List.{Asc}
 use Rattle.terms.specs.Width.{widthOf}
 use Rattle.digits.proofs.Bits.{length-fields}
@@ -19,19 +17,6 @@ use Rattle.block.specs.Calls.{readChecks, ReadEnds, writeChecks, WriteEn
 use Rattle.block.proofs.Fields.{Holds}
 use Rattle.block.proofs.Reading.{Readable, readable}
 use Rattle.block.proofs.Writing.{Writable, writable}
-
--- a call that writes one list, and whose checks pass, counts it and writes it,
-pub passed-writes : (cs : List Check) (p old : List ℕ) (answer : Answer) (new : List ℕ) → Passed cs → Ends cs old (Writes p old) answer new
-    → (answer ≡ accepted (length p)) × (new ≡ over p old)
-passed-writes cs p old answer new passed e =
-    let a = passed-accepts old (Writes p old) cs answer new passed e in (a .1 ∙ ap accepted (a .2 .0), a .2 .1)
-
--- so as much of the buffer as the answer counts is that list
-counted : (cs : List Check) (p old : List ℕ) (answer : Answer) (new : List ℕ) → Passed cs → Ends cs old (Writes p old) answer new
-    → take (answer .count) new ≡ p
-counted cs p old answer new passed e =
-    let w = passed-writes cs p old answer new passed e in
-    ap₂ take (ap (λ (a : Answer). a .count) (w .0)) (w .1) ∙ take-at p (drop (length p) old) (length p) refl
 
 -- where write accepted
 module _ (maxTerms : ℕ) (terms old : List ℕ) (answer : Answer) (new : List ℕ) (e : WriteEnds maxTerms terms old answer new) (z : answer .code ≡ 0) where

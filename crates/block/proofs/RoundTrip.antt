@@ -9,7 +9,7 @@ use lib.ListN.{length, take}
 use Rattle.answer.specs.declared.Answer.{Answer}
 use Rattle.answer.specs.Table.{accepted}
 use Rattle.answer.specs.Ends.{Writes, over}
-use Rattle.answer.proofs.Ends.{ends-coincide, writes-once}
+use Rattle.answer.proofs.Ends.{ends-coincide, writes-once, passed-writes}
 use Rattle.polys.specs.Poly.{vars}
 use Rattle.terms.specs.Width.{widthOf}
 use Rattle.masks.proofs.Width.{width-le}
@@ -21,7 +21,7 @@ use Rattle.terms.proofs.Vars.{vars-below}
 use Rattle.block.proofs.Fields.{Holds, block-holds, block-unique}
 use Rattle.block.proofs.Reading.{Readable, passed-if-readable}
 use Rattle.block.proofs.Writing.{Writable, passed-if-writable}
-use Rattle.block.proofs.Accepted.{passed-writes, write-accepts, block-left, said, read-accepts, terms-read, holds-if-readable, said-if-holds, readable-if-holds}
+use Rattle.block.proofs.Accepted.{write-accepts, block-left, said, read-accepts, terms-read, holds-if-readable, said-if-holds, readable-if-holds}
 
 -- two endings of read coincide, in the four numbers and in the buffer
 pub read-determined : (maxTerms maxVars : ℕ) (block old : List ℕ) (a b : Answer) (new other : List ℕ)

@@ -1,6 +1,7 @@
 -- The user's three demands, each as theorems about what the exported calls promise: an answer of four numbers and the buffers that it leaves.
 -- That every call ends, with an answer for every input, is what the check proves of each function. Assumes nothing.
-use Prim.Native.Nat.{ℕ, _+_, _*_, _≤_, _<_}
+use Prim.Native.Nat.{ℕ, _+_, _*_, _^_, _≤_, _<_}
+use native.Mathlib.Omega.{arith}
 use mathlib.Core.Path.{_≡_, refl, sym, ap, ap₂, _∙_, subst}
 use mathlib.Core.Bool.{Bool}
 use mathlib.Core.List.{List, [], _∷_, map, foldr}
@@ -13,6 +14,7 @@ use Rattle.answer.specs.Checked.{coded}
 use Rattle.answer.proofs.Ends.{refusal-keeps, accepted-passed, passed-accepts}
 use Rattle.polys.specs.List.{Asc}
 use Rattle.polys.specs.Poly.{times, Apart}
+use Rattle.polys.proofs.Lists.{at-mem}
 use Rattle.polys.specs.Parts.{Each, IsParts, product}
 use Rattle.unique.specs.Merged.{merged}
 use Rattle.unique.specs.Choice.{chosen, others}
@@ -34,6 +36,9 @@ use Rattle.same.proofs.Promise.{same-products-is-determined}
 use Rattle.taking.specs.Joined.{joined, lengths}
 use Rattle.parts.specs.Split.{Buffers, splitChecks, Splits, SplitEnds}
 use Rattle.parts.proofs.Determined.{split-is-determined}
+use Rattle.typed.specs.Says.{written}
+use Rattle.text.specs.Calls.{readTextChecks, readTerms, ReadTextEnds, writeTextChecks, WriteTextEnds}
+use Rattle.text.proofs.RoundTrip.{AllBelow, reader-is-determined, writer-is-determined, read-of-written, one-text-one-list}
 use Rattle.demands.specs.Told.{cut, told, Holds, Words}
 use Rattle.demands.proofs.Buffers.{words-below, cut-joined, counted-lengths, multiplied-words, added-words, added-at-most}
 
@@ -59,6 +64,15 @@ pub write-has-one-ending : (maxTerms : ℕ) (terms old : List ℕ) (x y : Answer
     → WriteEnds maxTerms terms old x new → WriteEnds maxTerms terms old y new′ → (x ≡ y) × (new ≡ new′)
 write-has-one-ending = write-determined
 
+-- for at least one variable and at most a hundred
+pub read-text-has-one-ending : (maxBytes maxTerms maxVars : ℕ) → 0 < maxVars → maxVars ≤ 100 → (text old : List ℕ) (x y : Answer) (new new′ : List ℕ)
+    → ReadTextEnds maxBytes maxTerms maxVars text old x new → ReadTextEnds maxBytes maxTerms maxVars text old y new′ → (x ≡ y) × (new ≡ new′)
+read-text-has-one-ending maxBytes maxTerms maxVars some few = reader-is-determined maxVars some few maxBytes maxTerms
+
+pub write-text-has-one-ending : (maxBytes maxTerms : ℕ) (terms old : List ℕ) (x y : Answer) (new new′ : List ℕ)
+    → WriteTextEnds maxBytes maxTerms terms old x new → WriteTextEnds maxBytes maxTerms terms old y new′ → (x ≡ y) × (new ≡ new′)
+write-text-has-one-ending = writer-is-determined
+
 -- the checks of split with these buffers
 abbrev checks : ℕ → ℕ → List ℕ → Buffers → List Check
 checks maxTerms maxVars f old = splitChecks maxTerms maxVars f (length (old .terms)) (length (old .lengths)) (length (old .work))
@@ -79,6 +93,32 @@ refused-read-keeps maxTerms maxVars block old =
 pub refused-write-keeps : (maxTerms : ℕ) (terms old : List ℕ) (answer : Answer) (new : List ℕ)
     → WriteEnds maxTerms terms old answer new → 0 < answer .code → new ≡ old
 refused-write-keeps maxTerms terms old = refusal-keeps old (Writes (blockOf terms) old) (writeChecks maxTerms terms (length old))
+
+pub refused-read-text-keeps : (maxBytes maxTerms maxVars : ℕ) (text old : List ℕ) (answer : Answer) (new : List ℕ)
+    → ReadTextEnds maxBytes maxTerms maxVars text old answer new → 0 < answer .code → new ≡ old
+refused-read-text-keeps maxBytes maxTerms maxVars text old answer new (v, _, ends) =
+    refusal-keeps old (Writes (readTerms v) old) (readTextChecks v (length old)) answer new ends
+
+pub refused-write-text-keeps : (maxBytes maxTerms : ℕ) (terms old : List ℕ) (answer : Answer) (new : List ℕ)
+    → WriteTextEnds maxBytes maxTerms terms old answer new → 0 < answer .code → new ≡ old
+refused-write-text-keeps maxBytes maxTerms terms old = refusal-keeps old (Writes (written terms) old) (writeTextChecks maxBytes maxTerms terms (length old))
+
+-- ---- texts: of lists of words, at the limits of the calls
+
+-- each word is below 2 to the 64
+words-are-below : (n : ℕ) (f : List ℕ) → Words n f → AllBelow n f
+words-are-below n f words t m = let w = at-mem f t m in subst (λ (x : ℕ). x < 2 ^ n) (sym (w .2)) (words (w .0))
+
+-- reading the text that was written gives the list back,
+pub written-text-comes-back : (terms old out : List ℕ) (wrote : Answer) (new : List ℕ) (got : Answer) (new′ : List ℕ) → Words 64 terms → length terms ≤ length out
+    → WriteTextEnds 65536 1024 terms old wrote new → wrote .code ≡ 0 → ReadTextEnds 65536 1024 64 (take (wrote .count) new) out got new′
+    → (got ≡ accepted (length terms)) × (new′ ≡ over terms out)
+written-text-comes-back terms old out wrote new got new′ words =
+    read-of-written 64 (omega arith) (omega arith) 65536 1024 terms old out wrote new got new′ (words-are-below 64 terms words)
+
+-- and lists with the same text are the same
+pub same-text-same-list : (f g : List ℕ) → Words 64 f → Words 64 g → written f ≡ written g → f ≡ g
+same-text-same-list f g p q = one-text-one-list 64 (omega arith) f g (words-are-below 64 f p) (words-are-below 64 g q)
 
 -- ---- demand 2: an accepted split's buffers hold the parts, and multiplying them gives the equation
 

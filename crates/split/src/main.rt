@@ -1,5 +1,6 @@
 // The program `split` (RULES 6): reads a block from standard input and prints its parts, or the refusal.
-// Thin over the proved library: what it prints is tested, not proved.
+// Thin over the proved library: each term of a part is spelled by the library's own writer, so the form of its text is proved (RULES 12.1).
+// That it is these bytes that come out, and the lines around them, is tested, not proved.
 use answer::Outcome;
 use libc::STDOUT_FILENO;
 use terms::TermList;
@@ -19,46 +20,25 @@ fn print_refusal(outcome: Outcome) {
     io::write_all(STDOUT_FILENO, b"\n");
 }
 
-// A variable of at most two digits.
-fn print_variable(variable: u64) {
-    let tens = (variable / 10 % 10) as u8;
-    let ones = (variable % 10) as u8;
-    if tens == 0 {
-        io::write_all(STDOUT_FILENO, &[b'x', b'0' + ones]);
-    } else {
-        io::write_all(STDOUT_FILENO, &[b'x', b'0' + tens, b'0' + ones]);
-    }
+// A term and the byte behind it. The longest has 246 bytes: three for each of the first ten variables, four for each of the others.
+fn print_term(term: u64, behind: u8) {
+    let mut text = [0u8; 246];
+    let n = spell::put_term(&mut text, 0, term, behind);
+    io::write_all(STDOUT_FILENO, &text[..n]);
 }
 
-// The variables of a term, ascending, joined by `*`; or `1`.
-fn print_term(term: u64) {
-    if term == 0 {
-        io::write_all(STDOUT_FILENO, b"1");
-        return;
-    }
-    let mut first = true;
-    for variable in 0..64u64 {
-        if term >> variable & 1 == 1 {
-            if !first {
-                io::write_all(STDOUT_FILENO, b"*");
-            }
-            print_variable(variable);
-            first = false;
-        }
-    }
-}
-
-// The terms of a part, ascending, joined by `+`, and a line feed.
+// The terms of a part, ascending, a `+` behind each but the last, and a line feed behind that.
 fn print_part(part: &[u64]) {
     let mut i = 0;
     while i < part.len() {
-        if 0 < i {
-            io::write_all(STDOUT_FILENO, b"+");
-        }
-        print_term(part[i]);
+        let term = part[i];
         i += 1;
+        if i < part.len() {
+            print_term(term, b'+');
+        } else {
+            print_term(term, b'\n');
+        }
     }
-    io::write_all(STDOUT_FILENO, b"\n");
 }
 
 // `parts K`, then a line for each part. Lengths that reach behind the terms do not occur: split's contract rules them out.

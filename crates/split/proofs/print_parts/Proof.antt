@@ -1,5 +1,4 @@
 -- `split::print_parts` is safe and ends: places stay within the lent lists. Assumes nothing.
-use native.Mathlib.Omega.{arith}
 use borrow.Author.Needs.{needs}
 use Prim.Native.Nat.{_≤_, _-_}
 use lib.ListN.{length}

@@ -1,0 +1,4 @@
+pub mod Steps
+pub mod Numerals
+pub mod Products
+pub mod Sums

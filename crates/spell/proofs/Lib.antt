@@ -1,0 +1,5 @@
+-- The laws of terms spelled as text.
+pub mod Lowest
+pub mod Spelling
+pub mod Sizes
+pub mod Longest
