@@ -1,6 +1,6 @@
 /* Apfelruder: sums mod 2 of products, split into parts with no common variable.
  *
- * The five calls of docs/RULES.md, for C and C++. The library behind them is
+ * The seven calls of docs/RULES.md, for C and C++. The library behind them is
  * proved: for every input, each call gives the answer and leaves the buffers that this page describes.
  * What no proof covers is this declaration itself and what a caller passes: see "Memory" below.
  *
@@ -10,15 +10,19 @@
  *           The empty list is zero, the list of the single term 0 is one.
  *   part    an irreducible factor. The parts of a list have no common variable; their product is the list.
  *   block   a polynomial packed into bytes (RULES 4).
+ *   text    a polynomial as a designer types it, in ASCII: x0*x3+x2+1 and a line feed (RULES 12). Terms are joined by +,
+ *           the variables x0 to x63 of a term by *, in any order; 1 is the constant term, a lone 0 is zero; no spaces,
+ *           no leading zeros, one line feed at the end and nothing behind it. Two equal terms cancel.
  *
  * Answers
  *   Every call returns four numbers by value.
  *     accepted: code 0, operand 0, place 0; count as told at each call.
- *     refused:  code 1 to 13, count 0, and every buffer holds what it held before the call.
+ *     refused:  code 1 to 15, count 0, and every buffer holds what it held before the call.
  *               operand: which of the inputs, from 1 in the order of the call; 0 for multiply's Shared,
  *                        TooLarge and Room, which concern no single list.
  *               place:   for Order the index, from 0, of the first term that is not above the one
- *                        before it, in that operand's own list; 0 with every other code.
+ *                        before it, in that operand's own list; for Sign and Twice the index, from 0, of
+ *                        the byte of the text that shows it; 0 with every other code.
  *
  * Memory
  *   A slice is a pointer and the number of its elements (not bytes), in this order.
@@ -33,14 +37,15 @@
  *     several threads at once are independent as long as no output of one is a slice of another.
  *   - It takes its room from the stack, and no proof says how much. No recursion is deeper than there are variables. The
  *     comparison (rust/compare/run) measures it on x86-64, on inputs chosen to go deep, and fails if same_products takes
- *     more than APFELRUDER_SAME_PRODUCTS_STACK_BYTES or another call more than APFELRUDER_STACK_BYTES. A stack that is
- *     too small is not noticed; leave it some room above these where threads have small stacks.
+ *     more than APFELRUDER_SAME_PRODUCTS_STACK_BYTES, read_text more than APFELRUDER_READ_TEXT_STACK_BYTES or another call
+ *     more than APFELRUDER_STACK_BYTES. A stack that is too small is not noticed; leave it some room above these where
+ *     threads have small stacks.
  *
  * Linking
  *   - target/staticlib/libapfelruder.a (`rt staticlib apfelruder`) is for x86-64. For another machine
  *     scripts/native-archive compiles the same proved module: target/native/libapfelruder.a.
- *   - Either archive defines the five calls below and no other global symbol.
- *   - Of the C library it needs memset alone; a program without a C library supplies that.
+ *   - Either archive defines the seven calls below and no other global symbol.
+ *   - Of the C library it needs memcpy and memset alone; a program without a C library supplies these.
  */
 #ifndef APFELRUDER_H
 #define APFELRUDER_H
@@ -52,16 +57,18 @@
  * on still holds; the major number grows when it may not: another limit or buffer size, another shape or
  * meaning of an answer, a call that is gone. */
 #define APFELRUDER_VERSION_MAJOR 1
-#define APFELRUDER_VERSION_MINOR 1
+#define APFELRUDER_VERSION_MINOR 2
 #define APFELRUDER_VERSION (APFELRUDER_VERSION_MAJOR * 1000 + APFELRUDER_VERSION_MINOR)
 
 /* Limits of a list. */
 #define APFELRUDER_MAX_TERMS 1024
 #define APFELRUDER_MAX_VARS 64
 
-/* Bytes of stack that the comparison holds the calls to: read, write, multiply and split; same products. */
+/* Bytes of stack that the comparison holds the calls to: read, write, multiply, split and write text; same products;
+ * read text, which keeps the terms of a text twice until equal ones have cancelled. */
 #define APFELRUDER_STACK_BYTES 16384
 #define APFELRUDER_SAME_PRODUCTS_STACK_BYTES 49152
+#define APFELRUDER_READ_TEXT_STACK_BYTES 24576
 
 /* What split needs for a list of t terms, in words of 64 bits. */
 #define APFELRUDER_PART_TERMS_WORDS(t) ((size_t)(t) + 64)
@@ -71,14 +78,19 @@
 /* The longest block: 3 bytes and 1,024 terms of 64 bits. */
 #define APFELRUDER_MAX_BLOCK_BYTES 8195
 
+/* The longest text that is read or written, its line feed included. */
+#define APFELRUDER_MAX_TEXT_BYTES 65536
+
 /* The codes of refusal, and when each is given. */
 enum {
     APFELRUDER_ACCEPTED = 0,
     APFELRUDER_ZERO = 1,      /* split of the empty list */
-    APFELRUDER_TOO_MANY = 2,  /* a list longer than 1,024 terms, or a block that says t above 1,024 */
+    APFELRUDER_TOO_MANY = 2,  /* a list longer than 1,024 terms, a block that says t above 1,024, or a text over
+                                 65,536 bytes or with over 1,024 terms as written */
     APFELRUDER_ORDER = 3,     /* a term not above the one before it; place = its first such index */
     APFELRUDER_SHARED = 4,    /* multiply: a variable in both lists */
-    APFELRUDER_TOO_LARGE = 5, /* multiply: the product of the two lengths is above 1,024 */
+    APFELRUDER_TOO_LARGE = 5, /* multiply: the product of the two lengths is above 1,024;
+                                 write_text: the text would be over 65,536 bytes */
     APFELRUDER_ROOM = 6,      /* an output is too short */
     APFELRUDER_WORK = 7,      /* split: the work area is shorter than 4 words a term */
     APFELRUDER_FORM = 8,      /* read: the form number is not 1 */
@@ -86,7 +98,10 @@ enum {
     APFELRUDER_SHORT = 10,    /* read: the bytes end before the block does */
     APFELRUDER_MISFIT = 11,   /* read: n is larger than one more than the highest variable */
     APFELRUDER_EXTRA = 12,    /* read: bytes after the block */
-    APFELRUDER_PAD = 13       /* read: a padding bit is set */
+    APFELRUDER_PAD = 13,      /* read: a padding bit is set */
+    APFELRUDER_SIGN = 14,     /* read_text: no equation goes on so, or the text ends too early; place = that byte's
+                                 index, or the text's length */
+    APFELRUDER_TWICE = 15     /* read_text: a variable again in its term; place = the index of the sign behind it */
 };
 
 typedef struct {
@@ -167,6 +182,32 @@ apfelruder_answer apfelruder_read(const uint8_t *bytes, size_t bytes_len,
  */
 apfelruder_answer apfelruder_write(const uint64_t *terms, size_t terms_len,
                                    uint8_t *out, size_t out_len);
+
+/* Reads a text.
+ *
+ * Needs   text: the bytes of one equation, its line feed included; no zero byte ends them. out: one word for each term that
+ *         is left when equal ones have cancelled; APFELRUDER_MAX_TERMS always suffice.
+ * Gives   count = the number of terms left, written ascending from the start of out. Words behind are unchanged.
+ * Refuses operand 1 throughout. First of all 2 TooMany (text_len above APFELRUDER_MAX_TEXT_BYTES). Then at the first byte
+ *         that shows it: 14 Sign (by form alone no equation goes on with this byte; place = its index, or text_len if
+ *         the text ends too early), 15 Twice (a variable again in its term, shown by the +, * or line feed behind it;
+ *         place = the index of that), 2 TooMany (the x or 1 that begins a 1,025th term, before any cancel).
+ *         Then 6 Room.
+ */
+apfelruder_answer apfelruder_read_text(const uint8_t *text, size_t text_len,
+                                       uint64_t *out, size_t out_len);
+
+/* Writes a list as a text. One polynomial has one text that is written: the terms ascending, in each the variables
+ * ascending. Reading it gives the list.
+ *
+ * Needs   terms: the list. out: the bytes of the text, its line feed included; APFELRUDER_MAX_TEXT_BYTES always suffice.
+ * Gives   count = the number of bytes, written from the start of out; no zero byte is written behind them. Bytes behind
+ *         are unchanged.
+ * Refuses in this order, operand 1 throughout:
+ *         2 TooMany, 3 Order (place = index of the term), 5 TooLarge (a text over APFELRUDER_MAX_TEXT_BYTES), 6 Room.
+ */
+apfelruder_answer apfelruder_write_text(const uint64_t *terms, size_t terms_len,
+                                        uint8_t *out, size_t out_len);
 
 #ifdef __cplusplus
 }

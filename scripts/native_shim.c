@@ -35,3 +35,13 @@ SHIM(write, (apfelruder_answer *, WORDS(t), uint8_t *, size_t), (WORDS(t), uint8
     module_write(&r, t, t_n, out, n);
     return r;
 })
+SHIM(read_text, (apfelruder_answer *, const uint8_t *, size_t, OUT(o)), (const uint8_t *text, size_t n, OUT(o)) {
+    apfelruder_answer r;
+    module_read_text(&r, text, n, o, o_n);
+    return r;
+})
+SHIM(write_text, (apfelruder_answer *, WORDS(t), uint8_t *, size_t), (WORDS(t), uint8_t *out, size_t n) {
+    apfelruder_answer r;
+    module_write_text(&r, t, t_n, out, n);
+    return r;
+})

@@ -1,7 +1,7 @@
 /* The benchmark: each call on each input family, by the proved library where it is linked in (-DHAVE_READ, ..), by plain
  * C of the same method, by the published methods, and by FLINT where it is installed. Usage: bench CALL.., where a CALL is
- * split, multiply, same_products, read or write, or split_second or same_products_second, and gives its table; or bench
- * growth SVG. bench/run builds and calls it. */
+ * split, multiply, same_products, read, write, read_text or write_text, or split_second or same_products_second, and gives
+ * its table; or bench growth SVG. bench/run builds and calls it. */
 #include "families.h"
 #include "measure.h"
 #include "peers.h"
@@ -43,6 +43,10 @@ METHOD(read_plain, plain_read(j->block, j->block_bytes, j->words, LONGEST).count
 METHOD(read_bits, bitwise_read(j->block, j->block_bytes, j->words))
 METHOD(write_plain, plain_write(LIST(j->a), j->bytes, sizeof j->bytes).count)
 METHOD(write_bits, bitwise_write(&j->a, j->bytes))
+METHOD(read_text_plain, plain_read_text(j->text, j->text_bytes, j->words, LONGEST).count)
+METHOD(read_text_library, library_read_text(j->text, j->words))
+METHOD(write_text_plain, plain_write_text(LIST(j->a), j->written, sizeof j->written).count)
+METHOD(write_text_library, library_write_text(&j->a, j->written, sizeof j->written))
 #ifdef HAVE_SPLIT
 METHOD(split_ours, apfelruder_split(LIST(j->a), SPLIT_ROOM).count)
 #endif
@@ -61,6 +65,12 @@ METHOD(read_ours, apfelruder_read(j->block, j->block_bytes, j->words, LONGEST).c
 #ifdef HAVE_WRITE
 METHOD(write_ours, apfelruder_write(LIST(j->a), j->bytes, sizeof j->bytes).count)
 #endif
+#ifdef HAVE_READ_TEXT
+METHOD(read_text_ours, apfelruder_read_text(j->text, j->text_bytes, j->words, LONGEST).count)
+#endif
+#ifdef HAVE_WRITE_TEXT
+METHOD(write_text_ours, apfelruder_write_text(LIST(j->a), j->written, sizeof j->written).count)
+#endif
 #ifdef BEFORE
 #define EARLIER(call) extern __typeof__(apfelruder_##call) before_##call
 EARLIER(read);
@@ -73,6 +83,14 @@ METHOD(multiply_before, before_multiply(LIST(j->a), LIST(j->b), j->words, LONGES
 METHOD(same_before, before_same_products(LIST(j->a), LIST(j->d), LIST(j->b), LIST(j->c)).count)
 METHOD(read_before, before_read(j->block, j->block_bytes, j->words, LONGEST).count)
 METHOD(write_before, before_write(LIST(j->a), j->bytes, sizeof j->bytes).count)
+#ifdef BEFORE_READ_TEXT
+EARLIER(read_text);
+METHOD(read_text_before, before_read_text(j->text, j->text_bytes, j->words, LONGEST).count)
+#endif
+#ifdef BEFORE_WRITE_TEXT
+EARLIER(write_text);
+METHOD(write_text_before, before_write_text(LIST(j->a), j->written, sizeof j->written).count)
+#endif
 #endif
 #ifdef HAVE_FLINT
 METHOD(split_flint, flint_split(&j->a))
@@ -89,6 +107,18 @@ BESIDE(multiply)
 BESIDE(same)
 BESIDE(read)
 BESIDE(write)
+/* These are younger: an earlier library may not have them. */
+#define ALONE(call) static const method call##_methods[] = {{"ours", call##_ours, 0, NULL}};
+#ifdef BEFORE_READ_TEXT
+BESIDE(read_text)
+#else
+ALONE(read_text)
+#endif
+#ifdef BEFORE_WRITE_TEXT
+BESIDE(write_text)
+#else
+ALONE(write_text)
+#endif
 #else
 static const method split_methods[] = {
 #ifdef HAVE_SPLIT
@@ -140,6 +170,20 @@ static const method write_methods[] = {
     {"plain C", write_plain, 0, NULL},
     {"bit by bit, no checks", write_bits, 0, NULL},
 };
+static const method read_text_methods[] = {
+#ifdef HAVE_READ_TEXT
+    {"ours", read_text_ours, 0, NULL},
+#endif
+    {"plain C", read_text_plain, 0, NULL},
+    {"strtoul and qsort, no checks", read_text_library, 0, NULL},
+};
+static const method write_text_methods[] = {
+#ifdef HAVE_WRITE_TEXT
+    {"ours", write_text_ours, 0, NULL},
+#endif
+    {"plain C", write_text_plain, 0, NULL},
+    {"snprintf, no checks", write_text_library, 0, NULL},
+};
 #endif
 #define METHODS(of) of, (int)(sizeof of / sizeof *of)
 
@@ -153,6 +197,22 @@ static void check_lists(const char *input) {
             fprintf(stderr, "bench: %s is not made of ascending lists\n", input);
             exit(1);
         }
+}
+
+/* The terms and bytes themselves, not only their number, must be the same by ours, plain C and the C library: the list that was
+ * typed, and its text. */
+static void check_texts(const char *input, const method *methods, int columns, int is_read) {
+    static uint8_t right[APFELRUDER_MAX_TEXT_BYTES];
+    size_t t = current.a.t, bytes = plain_spell(LIST(current.a), right);
+    for (int m = 0; m < columns; m++) {
+        memset(current.words, 0, sizeof current.words), memset(current.written, 0, sizeof current.written);
+        methods[m].go(&current);
+        int same = is_read ? current.result == t && !memcmp(current.words, current.a.terms, t * sizeof *current.words)
+                           : current.result == bytes && !memcmp(current.written, right, bytes);
+        if (same) continue;
+        fprintf(stderr, "bench: %s is wrong on %s\n", methods[m].name, input);
+        exit(1);
+    }
 }
 
 /* The parts themselves, not only their number, must be the same by ours, plain C and closure by search. */
@@ -219,6 +279,8 @@ static void measure_family(const family *f, const method *methods, int columns, 
         f->make(&current, f->size);
         check_lists(f->name);
         if (methods == split_methods) check_parts(f->name);
+        if (methods == read_text_methods || methods == write_text_methods)
+            check_texts(f->name, methods, columns, methods == read_text_methods);
         size_t right = 0;
         for (int m = 0; m < columns; m++) {
             if (methods[m].slow && i > 0) continue;
@@ -310,6 +372,8 @@ static int run_growth(const char *picture) {
 static int run_call(const char *call) {
     if (!strcmp(call, "read")) run_families("read", FAMILIES(block_families), METHODS(read_methods), 0);
     else if (!strcmp(call, "write")) run_families("write", FAMILIES(block_families), METHODS(write_methods), 0);
+    else if (!strcmp(call, "read_text")) run_families("read text", FAMILIES(text_families), METHODS(read_text_methods), 0);
+    else if (!strcmp(call, "write_text")) run_families("write text", FAMILIES(text_families), METHODS(write_text_methods), 0);
     else if (!strcmp(call, "multiply")) run_families("multiply", FAMILIES(multiply_families), METHODS(multiply_methods), 0);
     else if (!strcmp(call, "same_products")) run_families("same products", FAMILIES(same_families), METHODS(same_methods), 0);
     else if (!strcmp(call, "split")) run_families("split", FAMILIES(split_families), METHODS(split_methods), 0);

@@ -368,6 +368,44 @@ const family block_families[] = {
 };
 const int block_families_count = (int)(sizeof block_families / sizeof *block_families);
 
+/* ---- texts */
+
+/* The list, and its text with the terms in any order. */
+static void text(job *j) {
+    poly typed = j->a;
+    for (size_t i = typed.t; i > 1; i--) {
+        size_t k = random_word() % i;
+        uint64_t term = typed.terms[k];
+        typed.terms[k] = typed.terms[i - 1], typed.terms[i - 1] = term;
+    }
+    j->text_bytes = plain_spell(LIST(typed), j->text);
+}
+
+/* Terms of so many variables out of those. */
+static void terms_of(poly *f, uint64_t vars, int least, int most, size_t t) {
+    for (f->t = 0; f->t < t;) {
+        while (f->t < t) f->terms[f->t++] = random_variables(vars, least + (int)(random_word() % (uint64_t)(most - least + 1)));
+        ascending(f);
+    }
+}
+
+/* 16 variables of x10 to x63 and their signs take 64 bytes. */
+static void long_text(job *j, int size) { terms_of(&j->a, UINT64_MAX << 10, 16, 16, (size_t)size), text(j); }
+static void short_text(job *j, int size) { terms_of(&j->a, UINT64_MAX, 1, 3, (size_t)size), text(j); }
+static void small_text(job *j, int size) {
+    poly f = {{0, 4, 9}, (size_t)size};
+    j->a = f;
+    j->text_bytes = sizeof "x0*x3+x2+1\n" - 1;
+    memcpy(j->text, "x0*x3+x2+1\n", j->text_bytes);
+}
+
+const family text_families[] = {
+    {"1,024 terms, 65,536 bytes", long_text, 1024, 5},
+    {"1,024 terms of 1 to 3 variables", short_text, 1024, 5},
+    {"x0*x3+x2+1", small_text, 3, 1},
+};
+const int text_families_count = (int)(sizeof text_families / sizeof *text_families);
+
 /* ---- growth */
 
 const growing growing_inputs[] = {

@@ -13,6 +13,8 @@ typedef struct {
     uint64_t words[LONGEST + 64], lengths[64], work[4 * LONGEST];
     uint8_t bytes[APFELRUDER_MAX_BLOCK_BYTES];
     size_t result;
+    uint8_t text[APFELRUDER_MAX_TEXT_BYTES], written[APFELRUDER_MAX_TEXT_BYTES + 1];
+    size_t text_bytes;
 } job;
 
 /* A family: an input for each seed. */
@@ -41,6 +43,8 @@ extern const family same_second_families[];
 extern const int same_second_families_count;
 extern const family block_families[];
 extern const int block_families_count;
+extern const family text_families[];
+extern const int text_families_count;
 extern const growing growing_inputs[];
 extern const int growing_inputs_count;
 

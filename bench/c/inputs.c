@@ -21,7 +21,7 @@ static int by_value(const void *a, const void *b) {
 
 void sort_terms(uint64_t *terms, size_t t) { qsort(terms, t, sizeof *terms, by_value); }
 
-static void ascending(poly *f) {
+void ascending(poly *f) {
     size_t kept = 0;
     sort_terms(f->terms, f->t);
     for (size_t i = 0; i < f->t; i++)

@@ -56,5 +56,7 @@ void mirror_on(poly *f, uint64_t vars);
 void derivative(poly *out, const poly *f, int x);
 void at_zero(poly *out, const poly *f, int x);
 void sort_terms(uint64_t *terms, size_t t);
+/* the terms ascending, equal ones once */
+void ascending(poly *f);
 
 #endif

@@ -27,6 +27,10 @@ int papers_same(const poly *a, const poly *d, const poly *b, const poly *c, unsi
 size_t bitwise_read(const uint8_t *bytes, size_t len, uint64_t *out);
 size_t bitwise_write(const poly *f, uint8_t *out);
 
+/* A text by the C library: strtoul and qsort, and snprintf, whose last byte of room is its own. */
+size_t library_read_text(const uint8_t *text, uint64_t *out);
+size_t library_write_text(const poly *f, uint8_t *out, size_t room);
+
 #ifdef HAVE_FLINT
 size_t flint_split(const poly *f);
 size_t flint_multiply(const poly *a, const poly *b);

@@ -1,4 +1,4 @@
-/* Plain C baselines of the five calls: the same methods as the proved library, written without proofs, for
+/* Plain C baselines of the seven calls: the same methods as the proved library, written without proofs, for
  * the benchmark alone. Same signatures and same answers as include/apfelruder.h, under the prefix plain_. */
 #ifndef PLAIN_H
 #define PLAIN_H
@@ -13,6 +13,11 @@ apfelruder_answer plain_same_products(const uint64_t *a, size_t a_len, const uin
                                       const uint64_t *b, size_t b_len, const uint64_t *c, size_t c_len);
 apfelruder_answer plain_read(const uint8_t *bytes, size_t bytes_len, uint64_t *out, size_t out_len);
 apfelruder_answer plain_write(const uint64_t *terms, size_t t, uint8_t *out, size_t out_len);
+apfelruder_answer plain_read_text(const uint8_t *text, size_t text_len, uint64_t *out, size_t out_len);
+apfelruder_answer plain_write_text(const uint64_t *terms, size_t t, uint8_t *out, size_t out_len);
+
+/* The text of terms in any order; there must be room for it. Its bytes come back. */
+size_t plain_spell(const uint64_t *terms, size_t t, uint8_t *out);
 
 /* Split as it was before: closure under mixing, asked for by binary search (bench/c/plain_closure.c). */
 apfelruder_answer closure_split(const uint64_t *terms, size_t t, uint64_t *part_terms, size_t part_terms_len,

@@ -1,4 +1,4 @@
-//! The five calls of Apfelruder for Rust programs: a sum modulo 2 of products of variables is split into parts that
+//! The seven calls of Apfelruder for Rust programs: a sum modulo 2 of products of variables is split into parts that
 //! share no variable.
 //!
 //! ```
@@ -23,19 +23,23 @@
 //! - **Block**: a list packed into bytes, at most [`MAX_BLOCK_BYTES`]. The first three are one number of 24 bits, high byte
 //!   first: its upper 4 bits are the form number 1, the next 7 are n, the lower 13 are t. Behind them stand the terms, the
 //!   lowest first, each as a binary number of n digits; what is left of the last byte is 0 (the padding).
+//! - **Text**: a list as a designer types it, `x0*x3+x2+1` and a line feed, at most [`MAX_TEXT_BYTES`]. Terms with `+` between
+//!   them, in each its variables with `*` between them, both in any order; `1` is the constant term, a lone `0` is zero. No
+//!   spaces and no leading zeros. Two equal terms cancel. A list has one text that is written: all ascending.
 //! - **n**: how many binary digits the largest term of a list takes: 3 if that holds x2 and no higher variable, 0 if no
 //!   variable occurs.
 //! - **Answer**: the four numbers that every call gives: code, operand, place, count ([`raw::Answer`]).
 //! - **Code**: 0 if the call is accepted, else why it is refused ([`Refusal`]). A refused call has changed no buffer.
 //! - **Operand**: which input is refused, counted from 1 in the order of the call; 0 if no single one is.
-//! - **Place**: the index, from 0, of the first term that is not above the one before it; 0 with every other refusal.
+//! - **Place**: the index, from 0, of the first term that is not above the one before it, or of the first byte of a text that
+//!   is wrong; 0 with every other refusal.
 //! - **Count**: what an accepted call found: parts, terms, bytes, or 1 for yes and 0 for no; 0 if refused.
 //!
 //! # Two ways to call
 //!
 //! The functions of the crate itself answer with a `Result`, and take the room that they need: half a kilobyte at most for
-//! a list that is too long, some 50 kilobytes at most else. Those of [`raw`] work in the caller's buffers and allocate
-//! nothing; [`raw::Answer::result`] makes a `Result` of their answer.
+//! a list that is too long, some 50 kilobytes at most else, and 128 to write a text. Those of [`raw`] work in the caller's
+//! buffers and allocate nothing; [`raw::Answer::result`] makes a `Result` of their answer.
 //!
 //! A list whose terms are not ascending is refused, not sorted. To make one of any terms, sort them and drop equal ones in
 //! pairs: modulo 2 they cancel.
@@ -44,11 +48,11 @@
 //!
 //! | feature | what it is for |
 //! |---|---|
-//! | `split`, `multiply`, `same_products`, `read`, `write` | the call of that name, and its raw call; what is off is not asked of the archive |
-//! | `alloc` | the functions that answer with a `Vec`, that is all but `same_products` |
+//! | `split`, `multiply`, `same_products`, `read`, `write`, `read_text`, `write_text` | the call of that name, and its raw call; what is off is not asked of the archive |
+//! | `alloc` | the functions that answer with a `Vec` or a `String`, that is all but `same_products` |
 //!
 //! All are on by default. The crate is `no_std` and has no dependency; with `default-features = false` and some calls it
-//! needs no allocator either. The archive asks for one function from outside: `memset`.
+//! needs no allocator either. The archive asks for two functions from outside: `memcpy` and `memset`.
 //!
 //! # What to know
 //!
@@ -70,17 +74,23 @@ mod refusal;
 mod multiply;
 #[cfg(all(feature = "read", feature = "alloc"))]
 mod read;
+#[cfg(all(feature = "read_text", feature = "alloc"))]
+mod read_text;
 #[cfg(feature = "same_products")]
 mod same_products;
 #[cfg(all(feature = "split", feature = "alloc"))]
 mod split;
 #[cfg(all(feature = "write", feature = "alloc"))]
 mod write;
+#[cfg(all(feature = "write_text", feature = "alloc"))]
+mod write_text;
 
 #[cfg(all(feature = "multiply", feature = "alloc"))]
 pub use multiply::multiply;
 #[cfg(all(feature = "read", feature = "alloc"))]
 pub use read::read;
+#[cfg(all(feature = "read_text", feature = "alloc"))]
+pub use read_text::read_text;
 pub use refusal::Refusal;
 #[cfg(feature = "same_products")]
 pub use same_products::same_products;
@@ -88,6 +98,8 @@ pub use same_products::same_products;
 pub use split::split;
 #[cfg(all(feature = "write", feature = "alloc"))]
 pub use write::write;
+#[cfg(all(feature = "write_text", feature = "alloc"))]
+pub use write_text::write_text;
 
 /// The most terms that a list has.
 pub const MAX_TERMS: usize = 1024;
@@ -95,3 +107,5 @@ pub const MAX_TERMS: usize = 1024;
 pub const MAX_VARS: usize = 64;
 /// The length of the longest block: 3 bytes, and 1,024 terms of 64 bits.
 pub const MAX_BLOCK_BYTES: usize = 8195;
+/// The length of the longest text that is read or written, its line feed included.
+pub const MAX_TEXT_BYTES: usize = 65536;

@@ -48,14 +48,14 @@ pub struct Answer {
     pub code: u64,
     /// Which input was refused, from 1; 0 if none in particular.
     pub operand: u64,
-    /// The index of the first term out of order; 0 with every code but 3.
+    /// The index of the first term out of order, or of the byte of a text that is wrong; 0 with every code but 3, 14 and 15.
     pub place: u64,
     /// What was found: see each call; 0 if refused.
     pub count: u64,
 }
 
 impl Answer {
-    /// The count of an accepted answer. No call gives a count above [`MAX_BLOCK_BYTES`](crate::MAX_BLOCK_BYTES); one that a
+    /// The count of an accepted answer. No call gives a count above [`MAX_TEXT_BYTES`](crate::MAX_TEXT_BYTES); one that a
     /// `usize` cannot hold would become the largest that it can.
     ///
     /// ```
@@ -115,6 +115,15 @@ mod c {
         pub fn apfelruder_read(bytes: *const u8, bytes_len: usize, out: *mut u64, out_len: usize) -> super::Answer;
         #[cfg(feature = "write")]
         pub fn apfelruder_write(terms: *const u64, terms_len: usize, out: *mut u8, out_len: usize) -> super::Answer;
+        #[cfg(feature = "read_text")]
+        pub fn apfelruder_read_text(text: *const u8, text_len: usize, out: *mut u64, out_len: usize) -> super::Answer;
+        #[cfg(feature = "write_text")]
+        pub fn apfelruder_write_text(
+            terms: *const u64,
+            terms_len: usize,
+            out: *mut u8,
+            out_len: usize,
+        ) -> super::Answer;
     }
 }
 
@@ -200,4 +209,30 @@ pub fn read(bytes: &[u8], out: &mut [u64]) -> Answer {
 pub fn write(terms: &[u64], out: &mut [u8]) -> Answer {
     // SAFETY: as for split.
     unsafe { c::apfelruder_write(terms.as_ptr(), terms.len(), out.as_mut_ptr(), out.len()) }
+}
+
+/// Reads a text.
+///
+/// Needs one word for each term that is left when equal ones have cancelled; [`MAX_TERMS`](crate::MAX_TERMS) always suffice.
+/// Count: the number of terms left, written ascending.
+///
+/// Refuses, with operand 1: 2 `TooMany` (over [`MAX_TEXT_BYTES`](crate::MAX_TEXT_BYTES) bytes) first of all; then what the first
+/// byte shows that shows something: 14 `Sign`, 15 `Twice` or 2 `TooMany` (a 1,025th term); then 6 `Room`.
+#[cfg(feature = "read_text")]
+pub fn read_text(text: &[u8], out: &mut [u64]) -> Answer {
+    // SAFETY: as for split.
+    unsafe { c::apfelruder_read_text(text.as_ptr(), text.len(), out.as_mut_ptr(), out.len()) }
+}
+
+/// Writes a list as a text.
+///
+/// Needs the bytes of the text, its line feed included; [`MAX_TEXT_BYTES`](crate::MAX_TEXT_BYTES) always suffice. Count: the
+/// number of bytes written.
+///
+/// Refuses, in this order and with operand 1: 2 `TooMany`, 3 `Order`, 5 `TooLarge` (the text is over
+/// [`MAX_TEXT_BYTES`](crate::MAX_TEXT_BYTES) bytes), 6 `Room`.
+#[cfg(feature = "write_text")]
+pub fn write_text(terms: &[u64], out: &mut [u8]) -> Answer {
+    // SAFETY: as for split.
+    unsafe { c::apfelruder_write_text(terms.as_ptr(), terms.len(), out.as_mut_ptr(), out.len()) }
 }

@@ -14,7 +14,8 @@ use core::{error, fmt};
 pub enum Refusal {
     /// Code 1: split of the empty list, which is zero and is no product of parts. Operand 1.
     Zero,
-    /// Code 2: a list has more than 1,024 terms; from read, the block says so.
+    /// Code 2: a list has more than 1,024 terms; from read, the block says so; from read text, so many are written, or the
+    /// text has more than 65,536 bytes.
     TooMany {
         /// Which list: 1 or 2 from multiply, 1 to 4 (a, d, b, c) from same products, 1 else.
         operand: u64,
@@ -28,8 +29,12 @@ pub enum Refusal {
     },
     /// Code 4: multiply, a variable is in both lists. Operand 0, for it takes both.
     Shared,
-    /// Code 5: multiply, the lengths of the lists multiply to more than 1,024. Operand 0, for it takes both.
-    TooLarge,
+    /// Code 5: multiply, the lengths of the lists multiply to more than 1,024; write text, the text would have more than
+    /// 65,536 bytes.
+    TooLarge {
+        /// 0 from multiply, for it takes both lists; 1 from write text.
+        operand: u64,
+    },
     /// Code 6: a lent output is too short. Only raw calls can give it: the others lend enough.
     Room {
         /// 0 from multiply, whose room depends on both lists; 1 else.
@@ -49,6 +54,16 @@ pub enum Refusal {
     Extra,
     /// Code 13: read, one of the bits that fill up the last byte is set.
     Pad,
+    /// Code 14: read text, no equation goes on so, or the text ends too early.
+    Sign {
+        /// The index of the first byte with which no equation goes on; the length of the text if it ends too early.
+        place: u64,
+    },
+    /// Code 15: read text, a variable stands again in its term.
+    Twice {
+        /// The index of the `+`, `*` or line feed behind it.
+        place: u64,
+    },
     /// Numbers that are not in the table. This version of the library never gives them; an archive of a later one may.
     Unknown {
         /// The code, as it came.
@@ -69,7 +84,7 @@ impl Refusal {
             2 => Refusal::TooMany { operand },
             3 => Refusal::Order { operand, place },
             4 => Refusal::Shared,
-            5 => Refusal::TooLarge,
+            5 => Refusal::TooLarge { operand },
             6 => Refusal::Room { operand },
             7 => Refusal::Work,
             8 => Refusal::Form,
@@ -78,6 +93,8 @@ impl Refusal {
             11 => Refusal::Misfit,
             12 => Refusal::Extra,
             13 => Refusal::Pad,
+            14 => Refusal::Sign { place },
+            15 => Refusal::Twice { place },
             _ => unknown,
         };
         let kept = tabled.operand() == operand && tabled.place() == place;
@@ -96,7 +113,7 @@ impl Refusal {
             Refusal::TooMany { .. } => 2,
             Refusal::Order { .. } => 3,
             Refusal::Shared => 4,
-            Refusal::TooLarge => 5,
+            Refusal::TooLarge { .. } => 5,
             Refusal::Room { .. } => 6,
             Refusal::Work => 7,
             Refusal::Form => 8,
@@ -105,6 +122,8 @@ impl Refusal {
             Refusal::Misfit => 11,
             Refusal::Extra => 12,
             Refusal::Pad => 13,
+            Refusal::Sign { .. } => 14,
+            Refusal::Twice { .. } => 15,
             Refusal::Unknown { code, .. } => code,
         }
     }
@@ -115,18 +134,23 @@ impl Refusal {
         match self {
             Refusal::TooMany { operand }
             | Refusal::Order { operand, .. }
+            | Refusal::TooLarge { operand }
             | Refusal::Room { operand }
             | Refusal::Unknown { operand, .. } => operand,
-            Refusal::Shared | Refusal::TooLarge => 0,
+            Refusal::Shared => 0,
             _ => 1,
         }
     }
 
-    /// The index of the first term out of order; 0 with every refusal but [`Order`](Refusal::Order).
+    /// The index of the first term out of order, or of the byte of a text that is wrong; 0 with every refusal but
+    /// [`Order`](Refusal::Order), [`Sign`](Refusal::Sign) and [`Twice`](Refusal::Twice).
     #[must_use]
     pub const fn place(self) -> u64 {
         match self {
-            Refusal::Order { place, .. } | Refusal::Unknown { place, .. } => place,
+            Refusal::Order { place, .. }
+            | Refusal::Sign { place }
+            | Refusal::Twice { place }
+            | Refusal::Unknown { place, .. } => place,
             _ => 0,
         }
     }
@@ -151,17 +175,30 @@ impl fmt::Display for List {
 impl fmt::Display for Refusal {
     fn fmt(&self, f: &mut fmt::Formatter<'_>) -> fmt::Result {
         let sentence = match *self {
+            Refusal::TooMany { operand: 1 } => {
+                "the first list has more than 1,024 terms, or the text more than 65,536 bytes"
+            }
             Refusal::TooMany { operand } => return write!(f, "{} has more than 1,024 terms", List(operand)),
             Refusal::Order { operand, place } => {
                 let list = List(operand);
                 return write!(f, "{list} is out of order at index {place}: the term is not above the one before it");
+            }
+            Refusal::Sign { place } => {
+                return write!(
+                    f,
+                    "no equation goes on with the byte at index {place} of the text, or it ends there too early"
+                );
+            }
+            Refusal::Twice { place } => {
+                return write!(f, "a variable stands twice in a term, before the byte at index {place} of the text");
             }
             Refusal::Unknown { code, operand, place } => {
                 return write!(f, "refused for an unknown reason: code {code}, operand {operand}, place {place}");
             }
             Refusal::Zero => "the list is empty: zero has no parts",
             Refusal::Shared => "a variable is in both lists",
-            Refusal::TooLarge => "the product would have more than 1,024 terms",
+            Refusal::TooLarge { operand: 0 } => "the product would have more than 1,024 terms",
+            Refusal::TooLarge { .. } => "the text would have more than 65,536 bytes",
             Refusal::Room { .. } => "an output buffer is too short",
             Refusal::Work => "the work area is shorter than 4 words a term",
             Refusal::Form => "the form number of the block is not 1",

@@ -73,6 +73,29 @@ fn read_of_many_bytes() {
     assert_eq!((told, bytes), (Ok(vec![0]), 8));
 }
 
+#[cfg(feature = "read_text")]
+#[test]
+fn read_of_a_long_text() {
+    let (told, bytes) = taken(|| apfelruder::read_text(&[b'1'; 1_000_000]));
+    assert_eq!((told, bytes), (Err(apfelruder::Refusal::TooMany { operand: 1 }), 0));
+    let (told, bytes) = taken(|| apfelruder::read_text(b"x0+1\n"));
+    assert_eq!((told, bytes), (Ok(vec![0, 1]), 16));
+}
+
+#[cfg(feature = "write_text")]
+#[test]
+fn write_of_a_long_list_as_text() {
+    let long = vec![5; 1_000_000];
+    let (told, bytes) = taken(|| apfelruder::write_text(&long));
+    assert_eq!((told, bytes), (Err(apfelruder::Refusal::TooMany { operand: 1 }), 0));
+    // room for all 64 variables, and the two bytes of the text
+    let (told, bytes) = taken(|| apfelruder::write_text(&[0]));
+    assert_eq!((told.as_deref(), bytes), (Ok("1\n"), 246 + 2));
+    let all: Vec<u64> = (0..1024).collect();
+    let (told, bytes) = taken(|| apfelruder::write_text(&all));
+    assert_eq!(told.map(|text| text.len() + 65536), Ok(bytes));
+}
+
 #[cfg(feature = "write")]
 #[test]
 fn write_of_a_long_list() {

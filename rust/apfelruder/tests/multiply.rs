@@ -44,7 +44,7 @@ mod safe {
         assert_eq!(multiply(&[0, 1, 1], &[2]), Err(Refusal::Order { operand: 1, place: 2 }));
         assert_eq!(multiply(&[1], &[0, 2, 4, 3]), Err(Refusal::Order { operand: 2, place: 3 }));
         assert_eq!(multiply(&[0, 1], &[1]), Err(Refusal::Shared));
-        assert_eq!(multiply(&first(32), &by_32(33)), Err(Refusal::TooLarge));
+        assert_eq!(multiply(&first(32), &by_32(33)), Err(Refusal::TooLarge { operand: 0 }));
     }
 
     #[test]

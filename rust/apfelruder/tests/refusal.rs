@@ -5,12 +5,13 @@ use std::collections::HashSet;
 use std::error::Error;
 
 /// Each refusal with its code, operand and place.
-const TABLE: [(Refusal, u64, u64, u64); 14] = [
+const TABLE: [(Refusal, u64, u64, u64); 17] = [
     (Refusal::Zero, 1, 1, 0),
     (Refusal::TooMany { operand: 2 }, 2, 2, 0),
     (Refusal::Order { operand: 4, place: 1023 }, 3, 4, 1023),
     (Refusal::Shared, 4, 0, 0),
-    (Refusal::TooLarge, 5, 0, 0),
+    (Refusal::TooLarge { operand: 0 }, 5, 0, 0),
+    (Refusal::TooLarge { operand: 1 }, 5, 1, 0),
     (Refusal::Room { operand: 0 }, 6, 0, 0),
     (Refusal::Room { operand: 1 }, 6, 1, 0),
     (Refusal::Work, 7, 1, 0),
@@ -20,6 +21,8 @@ const TABLE: [(Refusal, u64, u64, u64); 14] = [
     (Refusal::Misfit, 11, 1, 0),
     (Refusal::Extra, 12, 1, 0),
     (Refusal::Pad, 13, 1, 0),
+    (Refusal::Sign { place: 65536 }, 14, 1, 65536),
+    (Refusal::Twice { place: 5 }, 15, 1, 5),
 ];
 
 #[test]
@@ -41,7 +44,7 @@ fn accepted_is_no_refusal() {
 #[test]
 fn any_numbers_are_kept() {
     // a code of a later version; codes of the table with an operand or a place that it does not have
-    let strange = [(14, 2, 3), (u64::MAX, u64::MAX, u64::MAX), (1, 2, 0), (4, 1, 0), (6, 1, 9), (13, 1, 1)];
+    let strange = [(16, 2, 3), (u64::MAX, u64::MAX, u64::MAX), (1, 2, 0), (4, 1, 0), (6, 1, 9), (13, 1, 1), (14, 2, 3)];
     for (code, operand, place) in strange {
         let told = Answer { code, operand, place, count: 0 }.result();
         assert_eq!(told, Err(Refusal::Unknown { code, operand, place }));
@@ -56,14 +59,23 @@ fn sentences() {
         said(Refusal::Order { operand: 2, place: 3 }),
         "the second list is out of order at index 3: the term is not above the one before it"
     );
-    assert_eq!(said(Refusal::TooMany { operand: 1 }), "the first list has more than 1,024 terms");
+    assert_eq!(
+        said(Refusal::TooMany { operand: 1 }),
+        "the first list has more than 1,024 terms, or the text more than 65,536 bytes"
+    );
     assert_eq!(said(Refusal::TooMany { operand: 3 }), "the third list has more than 1,024 terms");
     assert_eq!(said(Refusal::TooMany { operand: 4 }), "the fourth list has more than 1,024 terms");
     assert_eq!(said(Refusal::TooMany { operand: 5 }), "list 5 has more than 1,024 terms");
     assert_eq!(said(Refusal::Shared), "a variable is in both lists");
+    assert_eq!(said(Refusal::TooLarge { operand: 0 }), "the product would have more than 1,024 terms");
+    assert_eq!(said(Refusal::TooLarge { operand: 1 }), "the text would have more than 65,536 bytes");
     assert_eq!(
-        said(Refusal::Unknown { code: 14, operand: 2, place: 3 }),
-        "refused for an unknown reason: code 14, operand 2, place 3"
+        said(Refusal::Sign { place: 5 }),
+        "no equation goes on with the byte at index 5 of the text, or it ends there too early"
+    );
+    assert_eq!(
+        said(Refusal::Unknown { code: 16, operand: 2, place: 3 }),
+        "refused for an unknown reason: code 16, operand 2, place 3"
     );
 }
 

@@ -1,6 +1,8 @@
-//! The calls against each other: what write packs read unpacks, and the parts of a list multiply to it.
+//! The calls against each other: what write packs read unpacks, what is written as text reads as the list, and the parts of a
+//! list multiply to it.
 #![cfg(all(feature = "alloc", feature = "split", feature = "multiply", feature = "read", feature = "write"))]
-use apfelruder::{multiply, read, split, write};
+#![cfg(all(feature = "read_text", feature = "write_text"))]
+use apfelruder::{multiply, read, read_text, split, write, write_text};
 
 /// Lists of all shapes: constants, one term, many variables, the limits.
 fn lists() -> Vec<Vec<u64>> {
@@ -26,6 +28,14 @@ fn written_and_read() {
     for list in lists().into_iter().chain([vec![]]) {
         let block = write(&list).unwrap();
         assert_eq!(read(&block), Ok(list));
+    }
+}
+
+#[test]
+fn written_and_read_as_text() {
+    for list in lists().into_iter().chain([vec![]]) {
+        let text = write_text(&list).unwrap();
+        assert_eq!(read_text(text.as_bytes()), Ok(list));
     }
 }
 

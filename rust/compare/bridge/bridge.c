@@ -2,10 +2,10 @@
  * For a machine that cannot link the archive into the comparing program but can run it, as under an emulator.
  *
  * All numbers are words of 64 bits in the machine's order. A call: its number (0 split, 1 multiply, 2 same products,
- * 3 read, 4 write); for each slice where it begins, in bytes, and its length; the length in words of the memory that
- * holds them all, and that memory. What comes back: the four numbers, and the memory as the call left it. The comparing
- * program lays the slices out, so it sees what was written between them. If 8 is added to the number of a call, the bytes
- * of stack that it took come first.
+ * 3 read, 4 write, 5 read text, 6 write text); for each slice where it begins, in bytes, and its length; the length in
+ * words of the memory that holds them all, and that memory. What comes back: the four numbers, and the memory as the call
+ * left it. The comparing program lays the slices out, so it sees what was written between them. If 8 is added to the number
+ * of a call, the bytes of stack that it took come first.
  * Compiled with -DNO_SPLIT, -DNO_MULTIPLY, .. it does without that call. */
 #include "../../../include/apfelruder.h"
 
@@ -17,7 +17,9 @@ enum { MOST_WORDS = 1 << 20 };
 static uint64_t memory[MOST_WORDS];
 
 /* For each call the size of the elements of its slices; 0: no such slice. */
-static const unsigned char element[5][4] = {{8, 8, 8, 8}, {8, 8, 8, 0}, {8, 8, 8, 8}, {1, 8, 0, 0}, {8, 1, 0, 0}};
+enum { CALLS = 7 };
+static const unsigned char element[CALLS][4] = {{8, 8, 8, 8}, {8, 8, 8, 0}, {8, 8, 8, 8}, {1, 8, 0, 0},
+                                                {8, 1, 0, 0}, {1, 8, 0, 0}, {8, 1, 0, 0}};
 
 static uint64_t lengths[4], words;
 static unsigned char *slices[4];
@@ -75,6 +77,12 @@ static apfelruder_answer make(uint64_t call) {
 #ifndef NO_WRITE
     case 4: return apfelruder_write(WORDS(0), BYTES(1));
 #endif
+#ifndef NO_READ_TEXT
+    case 5: return apfelruder_read_text(BYTES(0), WORDS(1));
+#endif
+#ifndef NO_WRITE_TEXT
+    case 6: return apfelruder_write_text(WORDS(0), BYTES(1));
+#endif
     default: return none;
     }
 }
@@ -96,7 +104,7 @@ static __attribute__((noinline)) uint64_t below(int painting) {
 
 int main(void) {
     uint64_t call;
-    while (take(&call, 8) && (call & ~(uint64_t)8) < 5) {
+    while (take(&call, 8) && (call & ~(uint64_t)8) < CALLS) {
         int measured = call >= 8;
         call %= 8;
         if (!take_memory(call)) return 1;

@@ -8,13 +8,16 @@ pub enum Call {
     SameProducts,
     Read,
     Write,
+    ReadText,
+    WriteText,
 }
 
 impl Call {
-    pub const ALL: [Call; 5] = [Call::Split, Call::Multiply, Call::SameProducts, Call::Read, Call::Write];
+    pub const ALL: [Call; 7] =
+        [Call::Split, Call::Multiply, Call::SameProducts, Call::Read, Call::Write, Call::ReadText, Call::WriteText];
 
     pub fn name(self) -> &'static str {
-        ["split", "multiply", "same_products", "read", "write"][self as usize]
+        ["split", "multiply", "same_products", "read", "write", "read_text", "write_text"][self as usize]
     }
 }
 
@@ -89,6 +92,14 @@ impl Request {
 
     pub fn write(terms: &[u64], out: Vec<u8>) -> Request {
         Request::new(Call::Write, vec![Slice::Words(terms.to_vec()), Slice::Bytes(out)])
+    }
+
+    pub fn read_text(text: &[u8], out: Vec<u64>) -> Request {
+        Request::new(Call::ReadText, vec![Slice::Bytes(text.to_vec()), Slice::Words(out)])
+    }
+
+    pub fn write_text(terms: &[u64], out: Vec<u8>) -> Request {
+        Request::new(Call::WriteText, vec![Slice::Words(terms.to_vec()), Slice::Bytes(out)])
     }
 
     /// Multiply of two parts of one piece of memory.
@@ -169,6 +180,8 @@ pub fn independently(request: &Request) -> Reply {
         }
         (Call::Read, [Slice::Bytes(bytes), Slice::Words(out)]) => independent::read(bytes, out),
         (Call::Write, [Slice::Words(t), Slice::Bytes(out)]) => independent::write(t, out),
+        (Call::ReadText, [Slice::Bytes(text), Slice::Words(out)]) => independent::read_text(text, out),
+        (Call::WriteText, [Slice::Words(t), Slice::Bytes(out)]) => independent::write_text(t, out),
         _ => panic!("slices that {} does not take", request.call.name()),
     };
     Reply { answer: [answer.code, answer.operand, answer.place, answer.count], slices }

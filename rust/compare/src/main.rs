@@ -23,7 +23,7 @@ mod run;
 mod stack;
 
 use call::Call;
-use families::{blocks, examples, kinds, lengths, lists, quadruples, refusals, shared, sizes, small};
+use families::{blocks, examples, kinds, lengths, lists, quadruples, refusals, shared, sizes, small, texts, written};
 use peer::{Bridge, Peer};
 use run::Run;
 use std::time::{Duration, Instant};
@@ -148,6 +148,10 @@ fn fixed(run: &mut Run) {
     quadruples::exhaustive(run);
     random_quadruples(run, 1);
     quadruples::long(run);
+    texts::all(run);
+    texts::random(run, 20_000);
+    written::all(run);
+    written::random(run, 10_000);
 }
 
 fn random_lists(run: &mut Run, share: usize) {
@@ -183,6 +187,8 @@ fn random_quadruples(run: &mut Run, share: usize) {
 fn for_a_while(run: &mut Run, time: Duration) {
     let end = Instant::now() + time;
     refusals::all(run);
+    texts::refusals(run);
+    written::refusals(run);
     while Instant::now() < end {
         refusals::random(run, 2_000);
         shared::all(run, 500);
@@ -195,5 +201,8 @@ fn for_a_while(run: &mut Run, time: Duration) {
         blocks::random(run, 500);
         blocks::damaged(run, 10, false);
         blocks::noise(run, 1_000);
+        texts::random(run, 500);
+        texts::damaged(run, 5, false);
+        written::random(run, 300);
     }
 }

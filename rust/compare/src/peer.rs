@@ -183,6 +183,10 @@ mod linked {
             Call::Read => Some(raw::read(row.lent(0), row.out(1))),
             #[cfg(feature = "write")]
             Call::Write => Some(raw::write(row.lent(0), row.out(1))),
+            #[cfg(feature = "read_text")]
+            Call::ReadText => Some(raw::read_text(row.lent(0), row.out(1))),
+            #[cfg(feature = "write_text")]
+            Call::WriteText => Some(raw::write_text(row.lent(0), row.out(1))),
             #[allow(unreachable_patterns)]
             _ => None,
         }

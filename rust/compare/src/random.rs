@@ -37,6 +37,14 @@ impl Random {
         (0..n).map(|_| self.word() as u8).collect()
     }
 
+    /// The same in another order.
+    pub fn shuffled<T>(&mut self, mut all: Vec<T>) -> Vec<T> {
+        for i in (1..all.len()).rev() {
+            all.swap(i, self.below(i + 1));
+        }
+        all
+    }
+
     /// A set of so many variables out of those given.
     pub fn subset(&mut self, of: u64, size: usize) -> u64 {
         let mut left: Vec<u32> = (0..64).filter(|i| of >> i & 1 == 1).collect();

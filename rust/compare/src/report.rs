@@ -1,7 +1,7 @@
 //! What is printed: a difference with its input and what each side said, and the table of what was compared.
 //! A panic is caught and reported like a difference.
-use crate::call::{Reply, Request, Slice};
-use crate::run::Family;
+use crate::call::{Call, Reply, Request, Slice};
+use crate::run::{Family, CALLS};
 use std::panic::{self, AssertUnwindSafe};
 use std::sync::Mutex;
 
@@ -88,11 +88,10 @@ pub fn no_case(place: &str, input: &str, panic: &str) -> ! {
 }
 
 pub fn table(families: &[Family]) {
-    println!(
-        "{:<46}{:>9}{:>9}{:>9}{:>9}{:>9}{:>10}{:>7}",
-        "family", "split", "multiply", "same", "read", "write", "accepted", "s"
-    );
-    let mut sum = [0; 5];
+    let names: String =
+        Call::ALL.iter().map(|call| format!("{:>11}", call.name().trim_end_matches("_products"))).collect();
+    println!("{:<46}{names}{:>10}{:>7}", "family", "accepted", "s");
+    let mut sum = [0; CALLS];
     for f in families {
         if let Some(accepted) = (100 * f.accepted).checked_div(f.calls.iter().sum()) {
             row(f.name, f.calls, &format!("{accepted}%"), f.took.as_secs_f64());
@@ -104,7 +103,7 @@ pub fn table(families: &[Family]) {
     row("all", sum, "", families.iter().map(|f| f.took.as_secs_f64()).sum());
 }
 
-fn row(name: &str, calls: [u64; 5], accepted: &str, seconds: f64) {
-    let [split, multiply, same, read, write] = calls;
-    println!("{name:<46}{split:>9}{multiply:>9}{same:>9}{read:>9}{write:>9}{accepted:>10}{seconds:>7.1}");
+fn row(name: &str, calls: [u64; CALLS], accepted: &str, seconds: f64) {
+    let numbers: String = calls.iter().map(|made| format!("{made:>11}")).collect();
+    println!("{name:<46}{numbers}{accepted:>10}{seconds:>7.1}");
 }

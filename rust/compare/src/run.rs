@@ -18,9 +18,12 @@ pub enum Oracle {
     Both(Expected),
 }
 
+/// How many calls there are.
+pub const CALLS: usize = Call::ALL.len();
+
 pub struct Family {
     pub name: &'static str,
-    pub calls: [u64; 5],
+    pub calls: [u64; CALLS],
     pub accepted: u64,
     pub took: Duration,
 }
@@ -52,7 +55,7 @@ impl Run {
     pub fn family(&mut self, name: &'static str) {
         self.close();
         if !self.families.iter().any(|f| f.name == name) {
-            self.families.push(Family { name, calls: [0; 5], accepted: 0, took: Duration::ZERO });
+            self.families.push(Family { name, calls: [0; CALLS], accepted: 0, took: Duration::ZERO });
         }
         let at = self.families.iter().position(|f| f.name == name).unwrap();
         let family = self.families.remove(at);
@@ -115,7 +118,7 @@ impl Run {
         }
     }
 
-    /// Prints what was compared. An error names refusals of RULES 5.3 that no call was given.
+    /// Prints what was compared. An error names refusals of RULES 5.3 and 12.4 that no call was given.
     pub fn report(&mut self) -> Result<(), String> {
         self.close();
         report::table(&self.families);
@@ -131,7 +134,7 @@ impl Run {
     }
 }
 
-/// Every refusal that RULES 5.3 has.
+/// Every refusal that RULES 5.3 and 12.4 have.
 fn refusals() -> impl Iterator<Item = Refusal> {
     let one = |call: Call, codes: &'static [u64]| codes.iter().map(move |&code| (call, code, 1));
     let lists = |call: Call, n: u64| (1..=n).flat_map(move |operand| [(call, 2, operand), (call, 3, operand)]);
@@ -141,4 +144,6 @@ fn refusals() -> impl Iterator<Item = Refusal> {
         .chain(lists(Call::SameProducts, 4))
         .chain(one(Call::Read, &[2, 3, 6, 8, 9, 10, 11, 12, 13]))
         .chain(one(Call::Write, &[2, 3, 6]))
+        .chain(one(Call::ReadText, &[2, 6, 14, 15]))
+        .chain(one(Call::WriteText, &[2, 3, 5, 6]))
 }

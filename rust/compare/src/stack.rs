@@ -24,6 +24,7 @@ fn defined(header: &str, name: &str) -> Option<usize> {
 fn stated(call: Call) -> Result<usize, String> {
     let name = match call {
         Call::SameProducts => "APFELRUDER_SAME_PRODUCTS_STACK_BYTES",
+        Call::ReadText => "APFELRUDER_READ_TEXT_STACK_BYTES",
         _ => "APFELRUDER_STACK_BYTES",
     };
     defined(HEADER, name).ok_or(format!("include/apfelruder.h does not define {name}"))
@@ -114,7 +115,9 @@ mod tests {
     #[test]
     fn structured_inputs_are_lists() {
         let random = &mut Random::new(3);
-        for (call, inputs) in [(Call::Split, 1), (Call::Multiply, 2), (Call::SameProducts, 4), (Call::Write, 1)] {
+        let calls =
+            [(Call::Split, 1), (Call::Multiply, 2), (Call::SameProducts, 4), (Call::Write, 1), (Call::WriteText, 1)];
+        for (call, inputs) in calls {
             for _ in 0..500 {
                 let request = deep::structured(call, &[(); deep::GENES].map(|()| random.word())).request;
                 let mut met = 0;

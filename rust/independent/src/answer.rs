@@ -18,7 +18,11 @@ impl Answer {
     }
 
     pub fn order(operand: u64, place: usize) -> Answer {
-        Answer { code: 3, operand, place: place as u64, count: 0 }
+        Answer::at(3, operand, place)
+    }
+
+    pub fn at(code: u64, operand: u64, place: usize) -> Answer {
+        Answer { code, operand, place: place as u64, count: 0 }
     }
 }
 

@@ -5,19 +5,23 @@
 //!   what it found by multiplying the parts again;
 //! - same products multiplies both sides out;
 //! - multiply makes all unions and sorts them;
-//! - blocks are taken apart and put together bit by bit.
+//! - blocks are taken apart and put together bit by bit;
+//! - texts are cut at their signs, and the place of a fault is found by asking of beginnings of the text whether an equation
+//!   begins so.
 
 mod answer;
 mod blocks;
 mod parts;
 mod printed;
 mod products;
+mod texts;
 
 pub use answer::Answer;
 pub use blocks::{read, write};
 pub use parts::{parts_by_counting, parts_of, split};
 pub use printed::printed_split;
 pub use products::{multiply, same_products};
+pub use texts::{read_text, write_text};
 
 /// At most so many terms.
 pub const TERMS: usize = 1024;

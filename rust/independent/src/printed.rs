@@ -16,11 +16,16 @@ pub fn printed_split(input: &[u8]) -> String {
     let found = parts::parts_of(list);
     let mut text = format!("parts {}\n", found.len());
     for part in found {
-        let line: Vec<String> = part.iter().map(|&t| printed_term(t)).collect();
-        text += &line.join("+");
+        text += &printed_list(&part);
         text.push('\n');
     }
     text
+}
+
+/// The terms of a list that is not empty, with + between them.
+pub(crate) fn printed_list(list: &[u64]) -> String {
+    let line: Vec<String> = list.iter().map(|&t| printed_term(t)).collect();
+    line.join("+")
 }
 
 fn printed_term(term: u64) -> String {

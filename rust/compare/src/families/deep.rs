@@ -1,5 +1,5 @@
 //! Inputs on which the calls go deep, for the measurement of the stack: fixed ones, and any number made of factors.
-use super::{block_of, product};
+use super::{block_of, full_text, product, text_bytes, text_of};
 use crate::call::{Call, Request};
 use crate::random::Random;
 
@@ -18,6 +18,8 @@ fn request(call: Call, lists: &[&[u64]]) -> Request {
         (Call::SameProducts, [a, d, b, c]) => Request::same_products([a, d, b, c]),
         (Call::Read, [f]) => Request::read(&block_of(f), vec![7; f.len()]),
         (Call::Write, [f]) => Request::write(f, vec![7; super::block_bytes(f)]),
+        (Call::ReadText, [f]) => Request::read_text(&text_of(f), vec![7; f.len()]),
+        (Call::WriteText, [f]) => Request::write_text(f, vec![7; text_bytes(f)]),
         _ => panic!("lists that {} does not take", call.name()),
     }
 }
@@ -88,6 +90,7 @@ pub fn fixed(call: Call, random: &mut Random) -> Vec<Deep> {
         Call::Split => fixed_split(random),
         Call::SameProducts => fixed_same_products(random),
         Call::Read | Call::Write => fixed_block(call, random),
+        Call::ReadText | Call::WriteText => fixed_text(call, random),
     }
 }
 
@@ -199,6 +202,37 @@ fn fixed_block(call: Call, random: &mut Random) -> Vec<Deep> {
     lists.iter().map(|(name, list)| named(call, name, &[list])).collect()
 }
 
+fn fixed_text(call: Call, random: &mut Random) -> Vec<Deep> {
+    let cube: Vec<u64> = (0..1024).collect();
+    let high: Vec<u64> = cube.iter().map(|t| t << 54).collect();
+    let lists: [(&str, Vec<u64>); 7] = [
+        ("a text of 65,536 bytes", full_text()),
+        ("{0, .., 1023}", cube.clone()),
+        ("{0, .., 1023} on the highest variables", high),
+        ("266 terms of all variables but a few", (0..266).map(|t| u64::MAX - 266 + t).collect()),
+        ("1 + the sum of 64 variables", one_and_sum(u64::MAX, 65)),
+        ("one", vec![0]),
+        ("zero", vec![]),
+    ];
+    let mut found: Vec<Deep> = lists.iter().map(|(name, list)| named(call, name, &[list])).collect();
+    if call == Call::ReadText {
+        for (name, list) in lists {
+            let falling: Vec<u64> = list.iter().rev().copied().collect();
+            found.push(named(call, &format!("{name}, falling"), &[&falling]));
+            found.push(named(call, &format!("{name}, in any order"), &[&random.shuffled(list)]));
+        }
+        found.push(named(call, "1,024 times the same", &[&[7; 1024]]));
+        found.push(named(call, "{0, .., 511} twice", &[&[&cube[..512], &cube[..512]].concat()]));
+    }
+    found
+}
+
+/// The terms of the list, from the first on, whose text is not too long.
+fn fitting(list: &[u64]) -> &[u64] {
+    let most = (0..=list.len()).rev().find(|&t| text_bytes(&list[..t]) <= 65536);
+    &list[..most.unwrap_or(0)]
+}
+
 /// An input is made of so many numbers, so that a climb can change one of them.
 pub const GENES: usize = 6;
 pub type Genes = [u64; GENES];
@@ -268,6 +302,10 @@ pub fn structured(call: Call, genes: &Genes) -> Deep {
             list.dedup();
         }
     }
-    let lists: Vec<&[u64]> = lists.iter().map(|l| &l[..]).collect();
+    if call == Call::ReadText {
+        lists = lists.into_iter().map(|list| random.shuffled(list)).collect();
+    }
+    let is_text = matches!(call, Call::ReadText | Call::WriteText);
+    let lists: Vec<&[u64]> = lists.iter().map(|l| if is_text { fitting(l) } else { &l[..] }).collect();
     Deep { name: format!("the structured input {genes:x?}"), request: request(call, &lists) }
 }

@@ -1,5 +1,5 @@
-//! The refusal that the order of checks (RULES 5.3) asks for, read off the slices of a call.
-use super::block_bytes;
+//! The refusal that the order of checks (RULES 5.3, 12.4) asks for, read off the slices of a call.
+use super::{block_bytes, text_bytes};
 use crate::call::{Call, Expected, Request, Slice};
 use crate::run::{Oracle, Run};
 
@@ -26,6 +26,9 @@ fn refusal(request: &Request) -> Option<Refusal> {
         (Call::Write, [Words(t), Bytes(out)]) => {
             unfit(&[t]).or_else(|| (out.len() < block_bytes(t)).then_some([6, 1, 0]))
         }
+        (Call::WriteText, [Words(t), Bytes(out)]) => unfit(&[t])
+            .or_else(|| (text_bytes(t) > 65536).then_some([5, 1, 0]))
+            .or_else(|| (out.len() < text_bytes(t)).then_some([6, 1, 0])),
         _ => None,
     }
 }

@@ -18,7 +18,7 @@ fn unfit() -> Vec<Vec<u64>> {
     vec![vec![0, 0], vec![7, 7], vec![2, 1], vec![0, 1, 2, 0], late, (0..1025).collect(), both, vec![0; 1025]]
 }
 
-fn kinds() -> Vec<Vec<u64>> {
+pub fn kinds() -> Vec<Vec<u64>> {
     [fit(), unfit()].concat()
 }
 

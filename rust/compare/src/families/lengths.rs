@@ -6,7 +6,7 @@ use crate::call::{Expected, Request};
 use crate::run::{Oracle, Run};
 
 /// What is left of these lengths in 11 to 17 bits is 0, 1, 2, .. or just within a limit.
-fn lengths() -> Vec<usize> {
+pub fn lengths() -> Vec<usize> {
     let mut lengths = vec![1026, 1100, 2047, 2049, 3 << 10, 70_000];
     for bits in 11..=17 {
         lengths.extend([0, 1, 2, 3, 64, 1023, 1024].map(|more| (1 << bits) + more));

@@ -11,6 +11,8 @@ pub mod refusals;
 pub mod shared;
 pub mod sizes;
 pub mod small;
+pub mod texts;
+pub mod written;
 
 use crate::call::Request;
 use crate::random::Random;
@@ -52,6 +54,34 @@ pub fn block_of(terms: &[u64]) -> Vec<u8> {
         bits.put(term, n);
     }
     bits.bytes()
+}
+
+/// The bytes of a list's text: a variable and the sign behind it take 3 or, from x10 on, 4; the constant and its sign 2.
+pub fn text_bytes(terms: &[u64]) -> usize {
+    let bytes = |term: u64| (term & 1023).count_ones() * 3 + (term >> 10).count_ones() * 4;
+    terms.iter().map(|&term| bytes(term).max(2) as usize).sum::<usize>().max(2)
+}
+
+/// The text of a list, its terms in the order that they have there.
+pub fn text_of(terms: &[u64]) -> Vec<u8> {
+    let mut text = String::new();
+    for (i, &term) in terms.iter().enumerate() {
+        text += if i > 0 { "+" } else { "" };
+        text += if term == 0 { "1" } else { "" };
+        let mut left = term;
+        while left != 0 {
+            text += &format!("{}x{}", if left == term { "" } else { "*" }, left.trailing_zeros());
+            left &= left - 1;
+        }
+    }
+    text += if terms.is_empty() { "0\n" } else { "\n" };
+    text.into_bytes()
+}
+
+/// 1,024 terms, ascending, of 16 variables from x10 on: a text of 65,536 bytes.
+pub fn full_text() -> Vec<u64> {
+    let six = 0x3f << 30;
+    (0..1024u64).map(|i| (0..10).fold(six, |term, j| term | 1 << (10 + 2 * j + (i >> j & 1)))).collect()
 }
 
 /// Fields most significant bit first.

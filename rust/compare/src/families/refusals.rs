@@ -22,7 +22,7 @@ fn has(faults: u32, i: u32) -> bool {
 }
 
 /// The list with the term at this place set back to the one before it or below it.
-fn spoiled(mut list: Vec<u64>, place: usize, equal: bool) -> Vec<u64> {
+pub fn spoiled(mut list: Vec<u64>, place: usize, equal: bool) -> Vec<u64> {
     list[place] = list[place - 1] - !equal as u64;
     list
 }
@@ -294,7 +294,7 @@ pub fn random(run: &mut Run, how_many: usize) {
 }
 
 /// Mostly short and in order; else out of order, too long, or both.
-fn any_list(random: &mut Random) -> Vec<u64> {
+pub fn any_list(random: &mut Random) -> Vec<u64> {
     let few = random.between(0, 12);
     let t = match random.below(40) {
         0 => 0,
@@ -312,7 +312,7 @@ fn any_list(random: &mut Random) -> Vec<u64> {
 }
 
 /// What is needed, a little more, or too little.
-fn any_room(random: &mut Random, need: usize) -> usize {
+pub fn any_room(random: &mut Random, need: usize) -> usize {
     match random.below(8) {
         0 => random.below(need + 1),
         1 => need.saturating_sub(1),

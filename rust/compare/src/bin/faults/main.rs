@@ -10,6 +10,7 @@ mod blocks;
 mod parts;
 mod printed;
 mod products;
+mod texts;
 
 use std::path::{Path, PathBuf};
 use std::process::Command;
@@ -36,8 +37,17 @@ pub const fn fault(
     Fault { name, calls, file, old, new }
 }
 
-const TABLES: [&[Fault]; 7] =
-    [answer::FAULTS, parts::FAULTS, products::MULTIPLY, products::SAME, blocks::READ, blocks::WRITE, printed::FAULTS];
+const TABLES: [&[Fault]; 9] = [
+    answer::FAULTS,
+    parts::FAULTS,
+    products::MULTIPLY,
+    products::SAME,
+    blocks::READ,
+    blocks::WRITE,
+    printed::FAULTS,
+    texts::READ,
+    texts::WRITE,
+];
 
 /// A comparison that takes longer than this has not seen the fault.
 const SECONDS: &str = "400";

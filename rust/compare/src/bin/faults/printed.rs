@@ -47,13 +47,13 @@ pub const FAULTS: &[Fault] = &[
     fault("variables_of_one_digit", "printed", FILE, r#"format!("x{i}")"#, r#"format!("x{}", i % 10)"#),
     fault("variables_of_two_digits", "printed", FILE, r#"format!("x{i}")"#, r#"format!("x{i:02}")"#),
     fault("last_line_feed_missing", "printed", FILE, "    text\n}", "    text.trim_end().to_string()\n}"),
-    fault("terms_falling", "printed", FILE, "part.iter().map(", "part.iter().rev().map("),
+    fault("terms_falling", "printed", FILE, "list.iter().map(", "list.iter().rev().map("),
     fault(
         "part_without_its_constant",
         "printed",
         FILE,
-        "part.iter().map(",
-        "part.iter().filter(|&&t| t != 0 || part.len() > 2).map(",
+        "list.iter().map(",
+        "list.iter().filter(|&&t| t != 0 || list.len() > 2).map(",
     ),
     fault("parts_printed_falling", "printed", FILE, "for part in found {", "for part in found.into_iter().rev() {"),
 ];
