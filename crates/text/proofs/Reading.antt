@@ -83,16 +83,16 @@ found-read found words out refuses count answer new says h e f =
     record { refused = λ z. absurd (let x : ⊥ = omega arith in x); read = λ _. rw e at f }
 
 -- so a text that is not too long ends as it reads
-pub reads-so : (longest most : ℕ) (text out words new after : List ℕ) (found answer : Answer) → length text ≤ longest → Scanned most 64 text words found new
-    → FoundEnds found new out answer after → ReadTextEnds longest most 64 text out answer after
-reads-so longest most text out words new after found answer short scanned ends = (
+pub reads-so : (longest most vars : ℕ) → 0 < vars → vars ≤ 100 → (text out words new after : List ℕ) (found answer : Answer) → length text ≤ longest → Scanned most vars text words found new
+    → FoundEnds found new out answer after → ReadTextEnds longest most vars text out answer after
+reads-so longest most vars some few text out words new after found answer short scanned ends = (
   v,
-  reads-decides 64 (omega arith) (omega arith) longest most text short,
+  reads-decides vars some few longest most text short,
   by-test (ltb 0 (found .code)) refl,
 )
   where
     v : Verdict
-    v = reads 64 most (start [] []) 0 text
+    v = reads vars most (start [] []) 0 text
 
     by-test : (t : Bool) → ltb 0 (found .code) ≡ t → Ends (readTextChecks v (length out)) out (Writes (readTerms v) out) answer after
     by-test true e =

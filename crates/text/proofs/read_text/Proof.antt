@@ -2,6 +2,7 @@
 use native.Mathlib.Omega.{arith}
 use borrow.Author.Needs.{needs}
 use Prim.Native.Nat.{ℕ}
+use lib.Dec.{lit<, lit≤}
 use lib.ListN.{length-replicate}
 use Rattle.answer.specs.Table.{numbersOf}
 use Rattle.text.proofs.Reading.{too-long, few-found, reads-so}
@@ -17,4 +18,4 @@ write-found-requires c κs =
 pub read-text-spec : {M : Type 1} → statement M
 read-text-spec =
     tie.close
-    (tie.spec (λ c. search too-long) (λ c. search needs) (λ c κs. search needs) (λ c. search needs) write-found-requires (λ c. search needs) (λ c. search reads-so))
+    (tie.spec (λ c. search too-long) (λ c. search needs) (λ c κs. search needs) (λ c. search needs) write-found-requires (λ c. search needs) (λ c. search (reads-so, lit<, lit≤)))
