@@ -3,14 +3,15 @@
 use Prim.Native.Nat.{ℕ, _<_, _≤_}
 use mathlib.Core.Path.{_≡_, refl, sym, ap, _∙_, subst}
 use mathlib.Core.Bool.{Bool, true, false, not}
-use mathlib.Core.List.{List, [], _∷_}
-use borrow.Author.Tests.{lt-ltb, le-ltb, eq-eqb, ne-eqb, eqb-true, not-false}
+use mathlib.Core.List.{List, [], _∷_, _++_}
+use native.Mathlib.Omega.{arith}
+use borrow.Author.Tests.{lt-ltb, le-ltb, eq-eqb, ne-eqb, ltb-true, eqb-true, not-false}
 use lib.Dec.{ltb, eqb, lit<}
 use Rattle.answer.specs.declared.Answer.{Answer}
 use Rattle.answer.specs.Table.{accepted, refused}
 use Rattle.answer.specs.Ends.{Check, check, Ends}
 use Rattle.answer.specs.Checked.{Passed, Checked}
-use Rattle.answer.proofs.Ends.{ends-if-refused, passed-if-not-refused, ends-if-passed}
+use Rattle.answer.proofs.Ends.{each, ends-if-refused, passed-if-not-refused, ends-if-passed}
 
 -- the first check fails: its code, operand and place come back
 pub fails-here : (t : Bool) (code operand place found : ℕ) (cs : List Check) → t ≡ true → 0 < code → found ≡ place
@@ -93,6 +94,34 @@ equal-if-passed m n e = eqb-true m n (not-false (eqb m n) e)
 pub passed-if-equal : (m n : ℕ) → m ≡ n → not (eqb m n) ≡ false
 passed-if-equal m n e = agrees m m n refl e
 
+-- what refuses first refuses, whatever checks stand behind
+refused-behind : (cs ds : List Check) (answer : Answer) → Checked cs answer → ltb 0 (answer .code) ≡ true → Checked (cs ++ ds) answer
+unfolding Checked
+refused-behind [] ds answer c h = absurd (let z : ⊥ = omega (arith, ltb-true 0 (answer .code) h, ap (λ (a : Answer). a .code) c) in z)
+refused-behind (c ∷ cs) ds answer ch h = each (c .fails) (λ r. r) (λ r. refused-behind cs ds answer r h) ch
+
+-- checks behind others that have passed
+pub checked-behind : (cs ds : List Check) (answer : Answer) → Passed cs → Checked ds answer → Checked (cs ++ ds) answer
+unfolding Checked Passed
+checked-behind [] ds answer p c = c
+checked-behind (c ∷ cs) ds answer p ch = rw (p .0) (checked-behind cs ds answer (p .1) ch)
+
+-- those that have passed, and others behind them that have; and back
+pub passed-behind : (cs ds : List Check) → Passed cs → Passed ds → Passed (cs ++ ds)
+unfolding Passed
+passed-behind [] ds p q = q
+passed-behind (c ∷ cs) ds p q = (p .0, passed-behind cs ds (p .1) q)
+
+pub passed-first : (cs ds : List Check) → Passed (cs ++ ds) → Passed cs
+unfolding Passed
+passed-first [] ds p = tt
+passed-first (c ∷ cs) ds p = (p .0, passed-first cs ds (p .1))
+
+pub passed-then : (cs ds : List Check) → Passed (cs ++ ds) → Passed ds
+unfolding Passed
+passed-then [] ds p = p
+passed-then (c ∷ cs) ds p = passed-then cs ds (p .1)
+
 -- ---- a call that checks and then works: `refused` is what `answer::refuses` says of its checks' answer
 
 module _ (cs : List Check) (answer : Answer) (refused : Bool) (checked : Checked cs answer) (said : refused ≡ ltb 0 (answer .code)) where
@@ -107,6 +136,17 @@ module _ (cs : List Check) (answer : Answer) (refused : Bool) (checked : Checked
   -- and what the work did is the call's ending
   pub work-done : {B : Type 0} (old new : B) (A : ℕ → B → Type 0) (count : ℕ) → refused ≡ false → A count new → Ends cs old A (accepted count) new
   work-done old new A count e done = ends-if-passed old A cs count new (checks-passed e) done
+
+-- ---- checks that a function makes behind those of another: `refused` is what `answer::refuses` says of the first one's answer
+
+module _ (cs ds : List Check) (first : Answer) (refused : Bool) (checked : Checked cs first) (said : refused ≡ ltb 0 (first .code)) where
+  -- a refusal of the first ones is that of all,
+  pub refused-before : refused ≡ true → Checked (cs ++ ds) first
+  refused-before e = refused-behind cs ds first checked (sym said ∙ e)
+
+  -- and where they pass the others go on
+  pub passed-before : (answer : Answer) → refused ≡ false → Checked ds answer → Checked (cs ++ ds) answer
+  passed-before answer e then = checked-behind cs ds answer (passed-if-not-refused cs first checked (sym said ∙ e)) then
 
 -- a call that hands on the numbers of another promises what that one does
 pub numbers-handed-on : {B : Type 0} (cs : List Check) (old new : B) (A : ℕ → B → Type 0) (mine its : Answer)

@@ -31,7 +31,7 @@ alike : (t : Bool) {X Y X′ Y′ Z : Type 0} → (X → X′ → Z) → (Y → 
 alike true f g x x′ = f x x′
 alike false f g y y′ = g y y′
 
-each : (t : Bool) {X Y X′ Y′ : Type 0} → (X → X′) → (Y → Y′) → if t X Y → if t X′ Y′
+pub each : (t : Bool) {X Y X′ Y′ : Type 0} → (X → X′) → (Y → Y′) → if t X Y → if t X′ Y′
 each true f g x = f x
 each false f g y = g y
 

@@ -36,12 +36,12 @@ pub enum Outcome {
     Form,
     // a block's n is too large
     Wide,
-    // the bytes end before the block does
-    Short,
+    // the bytes end before the block does, or the words before the lists
+    Short { operand: u64 },
     // n is larger than the polynomial's
     Misfit,
-    // bytes after the block
-    Extra,
+    // bytes after the block, or words after the lists
+    Extra { operand: u64 },
     // a padding bit is set
     Pad,
     // a text goes on as no equation does, or ends too early
@@ -82,9 +82,9 @@ pub fn numbers(outcome: Outcome) -> Answer
         Outcome::Work => refusal(7, 1, 0),
         Outcome::Form => refusal(8, 1, 0),
         Outcome::Wide => refusal(9, 1, 0),
-        Outcome::Short => refusal(10, 1, 0),
+        Outcome::Short { operand } => refusal(10, operand, 0),
         Outcome::Misfit => refusal(11, 1, 0),
-        Outcome::Extra => refusal(12, 1, 0),
+        Outcome::Extra { operand } => refusal(12, operand, 0),
         Outcome::Pad => refusal(13, 1, 0),
         Outcome::Sign { place } => refusal(14, 1, place),
         Outcome::Twice { place } => refusal(15, 1, place),

@@ -3,6 +3,7 @@
 // its caller; each refuses instead.
 use answer::Answer;
 use terms::TermList;
+ghost use Rattle.audit.specs.Audit.{AuditEnds};
 ghost use Rattle.block.specs.Calls.{ReadEnds, WriteEnds};
 ghost use Rattle.parts.specs.Split.{SplitEnds};
 ghost use Rattle.product.specs.Multiply.{MultiplyEnds};
@@ -91,4 +92,32 @@ pub extern "C" fn apfelruder_write_text(terms: &[u64], out: &mut [u8]) -> Answer
       ⌜ WriteTextEnds longest most (now (terms .entry)) (now (out .entry)) r (now (out .exit)) ⌝ }
 {
     answer::numbers(text::write_text(terms, out))
+}
+
+// Whether given parts, one behind the other with their lengths, are the parts of an approved term list: count 1 for yes, 0 for no.
+#[no_mangle]
+pub extern "C" fn apfelruder_audit(
+    terms: &[u64],
+    given_terms: &[u64],
+    given_lengths: &[u64],
+    part_terms: &mut [u64],
+    part_lengths: &mut [u64],
+    work: &mut [u64],
+) -> Answer
+    ensures { λ r. do
+      most ← ⟦TermList::MAX_TERMS⟧ .entry
+      vars ← ⟦TermList::MAX_VARS⟧ .entry
+      ⌜ AuditEnds most vars (now (terms .entry)) (now («given_terms» .entry)) (now («given_lengths» .entry))
+          (record { terms = now («part_terms» .entry); lengths = now («part_lengths» .entry); work = now (work .entry) })
+          r
+          (record { terms = now («part_terms» .exit); lengths = now («part_lengths» .exit); work = now (work .exit) }) ⌝ }
+{
+    answer::numbers(audit::audit(
+        terms,
+        given_terms,
+        given_lengths,
+        part_terms,
+        part_lengths,
+        work,
+    ))
 }

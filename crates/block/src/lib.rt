@@ -34,7 +34,7 @@ fn read_checks(bytes: &[u8], room: usize) -> Outcome
       ⌜ Checked (readChecks terms vars (now (bytes .entry)) room) (numbersOf r) ⌝ }
 {
     if bytes.len() < 3 {
-        return Outcome::Short;
+        return Outcome::Short { operand: 1 };
     }
     let form = digits::field(bytes, 0, 4);
     if form != 1 {
@@ -58,10 +58,10 @@ fn body_checks(bytes: &[u8], n: usize, t: usize, room: usize) -> Outcome
 {
     let size = packing::block_size(n, t);
     if bytes.len() < size {
-        return Outcome::Short;
+        return Outcome::Short { operand: 1 };
     }
     if size < bytes.len() {
-        return Outcome::Extra;
+        return Outcome::Extra { operand: 1 };
     }
     if room < t {
         return Outcome::Room { operand: 1 };

@@ -1,14 +1,12 @@
 -- What stands in the buffers after an accepted split, read back: the parts. Serves Demands. Assumes nothing.
-use Prim.Native.Nat.{ℕ, suc, _+_, _*_, _≤_}
-use mathlib.Core.Path.{_≡_, refl, sym, ap, ap₂, _∙_, subst}
+use Prim.Native.Nat.{ℕ, _+_, _*_, _≤_}
+use mathlib.Core.Path.{_≡_, refl, sym, ap, _∙_}
 use mathlib.Core.Bool.{true, true≢false}
-use mathlib.Core.List.{List, [], _∷_, _++_, append-assoc, foldr}
+use mathlib.Core.List.{List, [], _∷_, foldr}
 use native.Mathlib.Nat.{lt-of-not-le}
 use native.Mathlib.Omega.{arith}
 use lib.Count.{ones-le}
-use lib.ListN.{length, take, drop}
-use lib.Seq.{take-at, drop-at}
-use Rattle.answer.specs.Ends.{over}
+use lib.ListN.{length}
 use Rattle.masks.proofs.Bits.{bits-above-vanish}
 use Rattle.polys.specs.Poly.{vars}
 use Rattle.polys.specs.Parts.{IsParts}
@@ -16,30 +14,12 @@ use Rattle.rule.specs.Rule.{Below}
 use Rattle.terms.proofs.Vars.{vars-below}
 use Rattle.unique.specs.Lengths.{lengthsMultiplied, lengthsAdded}
 use Rattle.unique.proofs.Counts.{lengths-sum, number-of-parts}
-use Rattle.taking.specs.Joined.{joined, lengths}
-use Rattle.demands.specs.Told.{cut, Words}
+use Rattle.taking.specs.Joined.{lengths}
+use Rattle.demands.specs.Told.{Words}
 
 -- the variables of words of n bits are below n
 pub words-below : (n : ℕ) (f : List ℕ) → Words n f → Below n f
 words-below n f w i h = lt-of-not-le (λ l. true≢false (sym h ∙ bits-above-vanish n (vars f) i (vars-below n f w) l))
-
--- as many lengths as parts
-pub length-of-lengths : (ps : List (List ℕ)) → length (lengths ps) ≡ length ps
-length-of-lengths [] = refl
-length-of-lengths (p ∷ ps) = ap suc (length-of-lengths ps)
-
--- parts that stand one after another are cut by their lengths
-pub cut-joined : (ps : List (List ℕ)) (rest : List ℕ) → cut (lengths ps) (joined ps ++ rest) ≡ ps
-unfolding cut joined
-cut-joined [] rest = refl
-cut-joined (p ∷ ps) rest =
-    let e : (p ++ joined ps) ++ rest ≡ p ++ (joined ps ++ rest) = append-assoc p (joined ps) rest in
-    ap₂ (λ (q : List ℕ) (qs : List (List ℕ)). q ∷ qs) (ap (take (length p)) e ∙ take-at p (joined ps ++ rest) (length p) refl)
-    (ap (λ (l : List ℕ). cut (lengths ps) (drop (length p) l)) e ∙ ap (cut (lengths ps)) (drop-at p (joined ps ++ rest) (length p) refl) ∙ cut-joined ps rest)
-
--- the lengths that were counted are those of the parts
-pub counted-lengths : (ps : List (List ℕ)) (old : List ℕ) (count : ℕ) → count ≡ length ps → take count (over (lengths ps) old) ≡ lengths ps
-counted-lengths ps old count e = take-at (lengths ps) (drop (length (lengths ps)) old) count (length-of-lengths ps ∙ sym e)
 
 -- the words of the lengths multiplied, and added
 pub multiplied-words : (ps : List (List ℕ)) → foldr _*_ 1 (lengths ps) ≡ lengthsMultiplied ps

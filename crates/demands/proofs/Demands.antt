@@ -4,8 +4,9 @@ use Prim.Native.Nat.{ℕ, _+_, _*_, _^_, _≤_, _<_}
 use native.Mathlib.Omega.{arith}
 use mathlib.Core.Path.{_≡_, refl, sym, ap, ap₂, _∙_, subst}
 use mathlib.Core.Bool.{Bool}
-use mathlib.Core.List.{List, [], _∷_, map, foldr}
-use lib.ListN.{length, take, drop, replicate}
+use mathlib.Core.List.{List, [], _∷_, map, foldr, append-nil}
+use mathlib.Core.Logic.{_⊎_, inl, inr}
+use lib.ListN.{length, take, drop}
 use lib.Seq.{take-at}
 use Rattle.answer.specs.declared.Answer.{Answer}
 use Rattle.answer.specs.Table.{accepted}
@@ -13,7 +14,7 @@ use Rattle.answer.specs.Ends.{Check, over, Writes}
 use Rattle.answer.specs.Checked.{coded}
 use Rattle.answer.proofs.Ends.{refusal-keeps, accepted-passed, passed-accepts}
 use Rattle.polys.specs.List.{Asc}
-use Rattle.polys.specs.Poly.{times, Apart}
+use Rattle.polys.specs.Poly.{times, Apart, Irreducible}
 use Rattle.polys.proofs.Lists.{at-mem}
 use Rattle.polys.specs.Parts.{Each, IsParts, product}
 use Rattle.unique.specs.Merged.{merged}
@@ -35,12 +36,16 @@ use Rattle.same.specs.Same.{SameEnds}
 use Rattle.same.proofs.Promise.{same-products-is-determined}
 use Rattle.taking.specs.Joined.{joined, lengths}
 use Rattle.parts.specs.Split.{Buffers, splitChecks, Splits, SplitEnds}
-use Rattle.parts.proofs.Determined.{split-is-determined}
+use Rattle.parts.proofs.Determined.{splits-once, split-is-determined}
 use Rattle.typed.specs.Says.{written}
 use Rattle.text.specs.Calls.{readTextChecks, readTerms, ReadTextEnds, writeTextChecks, WriteTextEnds}
 use Rattle.text.proofs.RoundTrip.{AllBelow, reader-is-determined, writer-is-determined, read-of-written, one-text-one-list}
-use Rattle.demands.specs.Told.{cut, told, Holds, Words}
-use Rattle.demands.proofs.Buffers.{words-below, cut-joined, counted-lengths, multiplied-words, added-words, added-at-most}
+use Rattle.audit.specs.Audit.{cut, auditChecks, Audited, AuditEnds}
+use Rattle.audit.proofs.Determined.{audit-is-determined}
+use Rattle.audit.proofs.Cutting.{cut-joined, counted-lengths}
+use Rattle.audit.proofs.Passing.{accepted-audit}
+use Rattle.demands.specs.Told.{told, Holds, Words}
+use Rattle.demands.proofs.Buffers.{words-below, multiplied-words, added-words, added-at-most}
 
 -- ---- demand 1: for every input one answer, and after a refusal every lent buffer holds what it held
 
@@ -73,6 +78,10 @@ pub write-text-has-one-ending : (maxBytes maxTerms : ℕ) (terms old : List ℕ)
     → WriteTextEnds maxBytes maxTerms terms old x new → WriteTextEnds maxBytes maxTerms terms old y new′ → (x ≡ y) × (new ≡ new′)
 write-text-has-one-ending = writer-is-determined
 
+pub audit-has-one-ending : (maxTerms maxVars : ℕ) (f words ls : List ℕ) (old : Buffers) (x y : Answer) (new new′ : Buffers)
+    → AuditEnds maxTerms maxVars f words ls old x new → AuditEnds maxTerms maxVars f words ls old y new′ → (x ≡ y) × (new ≡ new′)
+audit-has-one-ending = audit-is-determined
+
 -- the checks of split with these buffers
 abbrev checks : ℕ → ℕ → List ℕ → Buffers → List Check
 checks maxTerms maxVars f old = splitChecks maxTerms maxVars f (length (old .terms)) (length (old .lengths)) (length (old .work))
@@ -102,6 +111,11 @@ refused-read-text-keeps maxBytes maxTerms maxVars text old answer new (v, _, end
 pub refused-write-text-keeps : (maxBytes maxTerms : ℕ) (terms old : List ℕ) (answer : Answer) (new : List ℕ)
     → WriteTextEnds maxBytes maxTerms terms old answer new → 0 < answer .code → new ≡ old
 refused-write-text-keeps maxBytes maxTerms terms old = refusal-keeps old (Writes (written terms) old) (writeTextChecks maxBytes maxTerms terms (length old))
+
+pub refused-audit-keeps : (maxTerms maxVars : ℕ) (f words ls : List ℕ) (old : Buffers) (answer : Answer) (new : Buffers)
+    → AuditEnds maxTerms maxVars f words ls old answer new → 0 < answer .code → new ≡ old
+refused-audit-keeps maxTerms maxVars f words ls old =
+    refusal-keeps old (Audited f (cut ls words) old) (auditChecks maxTerms maxVars f words ls (length (old .terms)) (length (old .lengths)) (length (old .work)))
 
 -- ---- texts: of lists of words, at the limits of the calls
 
@@ -180,6 +194,55 @@ module _ (maxTerms maxVars : ℕ) (f : List ℕ) (old : Buffers) (answer : Answe
   parts-are-the-factors-over-GF2 w =
       let h = accepted-split-holds-the-parts .parts in
       (parts-are-irreducible-over-GF2 maxVars f (told answer new) h (words-below maxVars f w), parts-multiply-over-GF2 maxVars f (told answer new) h)
+
+-- ---- the auditor's two questions, of parts that are given
+
+module _ (maxTerms maxVars : ℕ) (f words ls : List ℕ) (old : Buffers) (answer : Answer) (new : Buffers)
+    (ends : AuditEnds maxTerms maxVars f words ls old answer new) (taken : answer .code ≡ 0) where
+  judged : (count : ℕ) × (answer ≡ accepted count) × Audited f (cut ls words) old count new
+  judged = accepted-audit maxTerms maxVars f words ls old answer new ends taken
+
+  -- yes exactly if the given parts are the parts,
+  pub audit-says-yes-exactly-for-the-parts : (answer .count ≡ 1 → IsParts f (cut ls words)) × (IsParts f (cut ls words) → answer .count ≡ 1)
+  unfolding judged
+  audit-says-yes-exactly-for-the-parts = verdict (judged .2 .0) (ap (λ (a : Answer). a .count) (judged .1))
+    where
+      verdict : {claim : Type 0} {n : ℕ} → ((n ≡ 1) × claim) ⊎ ((n ≡ 0) × ¬ claim) → answer .count ≡ n → (answer .count ≡ 1 → claim) × (claim → answer .count ≡ 1)
+      verdict (inl a) e = ((λ _. a .1), (λ _. e ∙ a .0))
+      verdict (inr a) e = ((λ h. absurd (let z : ⊥ = omega (arith, h, e, a .0) in z)), (λ c. absurd (a .1 c)))
+
+  -- so what is given multiplies back to the approved equation,
+  pub audited-parts-multiply-back : answer .count ≡ 1 → product (cut ls words) ≡ f
+  audited-parts-multiply-back said = audit-says-yes-exactly-for-the-parts .0 said .multiply
+
+  -- none of it could be split again,
+  pub audited-parts-cannot-be-split : answer .count ≡ 1 → Each Irreducible (cut ls words)
+  audited-parts-cannot-be-split said = audit-says-yes-exactly-for-the-parts .0 said .irreducible
+
+  -- and in the ordinary sense too these are the irreducible factors over GF(2), with the approved equation as their product
+  pub audited-parts-are-the-factors-over-GF2 : answer .count ≡ 1 → Words maxVars f
+      → Each (λ (p : List ℕ). IrreducibleGF2 maxVars (ordinary p)) (cut ls words)
+      × Same maxVars (ordinary f) (foldr multiplied ((λ i. 0) ∷ []) (map ordinary (cut ls words)))
+  audited-parts-are-the-factors-over-GF2 said w =
+      let h = audit-says-yes-exactly-for-the-parts .0 said in
+      (parts-are-irreducible-over-GF2 maxVars f (cut ls words) h (words-below maxVars f w), parts-multiply-over-GF2 maxVars f (cut ls words) h)
+
+  -- yes or no, the buffers hold the parts, as after a split
+  pub audit-leaves-what-split-leaves : (other : Answer) (new′ : Buffers) → SplitEnds maxTerms maxVars f old other new′ → other .code ≡ 0 → new ≡ new′
+  unfolding judged
+  audit-leaves-what-split-leaves other new′ split taken′ =
+      let s = accepts maxTerms maxVars f old other new′ split taken′ in
+      splits-once f old (judged .2 .1 .0) (s .0) new new′ (judged .2 .1 .1) (s .2) .1
+
+-- what an accepted split tells is audited with yes
+pub split-is-audited-yes : (maxTerms maxVars : ℕ) (f : List ℕ) (old old′ : Buffers) (x y : Answer) (new new′ : Buffers)
+    → SplitEnds maxTerms maxVars f old x new → x .code ≡ 0 → AuditEnds maxTerms maxVars f (joined (told x new)) (lengths (told x new)) old′ y new′ → y .code ≡ 0
+    → y .count ≡ 1
+split-is-audited-yes maxTerms maxVars f old old′ x y new new′ split taken audit taken′ =
+    let ps = told x new in
+    audit-says-yes-exactly-for-the-parts maxTerms maxVars f (joined ps) (lengths ps) old′ y new′ audit taken′ .1
+    (subst (IsParts f) (sym (ap (cut (lengths ps)) (sym (append-nil (joined ps))) ∙ cut-joined ps []))
+    (accepted-split-holds-the-parts maxTerms maxVars f old x new split taken .parts))
 
 -- ---- demand 3: the parts of a product, and the pairs of factors
 

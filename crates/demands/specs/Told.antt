@@ -1,19 +1,15 @@
 -- What an accepted split tells whoever reads its answer and its buffers: the parts.
 use Prim.Native.Nat.{ℕ, _^_, _<_}
 use mathlib.Core.Path.{_≡_}
-use mathlib.Core.List.{List, [], _∷_}
-use lib.ListN.{length, getD, take, drop, replicate}
+use mathlib.Core.List.{List}
+use lib.ListN.{length, getD, take, replicate}
 use Rattle.answer.specs.declared.Answer.{Answer}
 use Rattle.answer.specs.Table.{accepted}
 use Rattle.answer.specs.Ends.{over}
 use Rattle.polys.specs.Parts.{IsParts}
 use Rattle.taking.specs.Joined.{joined, lengths}
 use Rattle.parts.specs.Split.{Buffers}
-
--- the lists of these lengths that stand one after another
-unfoldable pub cut : List ℕ → List ℕ → List (List ℕ)
-cut [] terms = []
-cut (l ∷ ls) terms = take l terms ∷ cut ls (drop l terms)
+use Rattle.audit.specs.Audit.{cut}
 
 -- as many lengths as were counted, and the part terms cut by them
 abbrev pub told : Answer → Buffers → List (List ℕ)

@@ -1,4 +1,4 @@
--- The examples of RULES 7 that are marked P, each once, in their order there, and what it means that one holds.
+-- The examples of RULES 7 and 13 that are marked P, each once, in their order there, and what it means that one holds.
 -- It holds by what the calls promise: the contract allows an end, and every end that it allows is the one that the row states.
 use Prim.Native.Nat.{ℕ, _+_, _*_, _≤_}
 use mathlib.Core.Path.{_≡_}
@@ -12,6 +12,7 @@ use Rattle.taking.specs.Joined.{joined, lengths}
 use Rattle.parts.specs.Split.{Buffers, SplitEnds}
 use Rattle.ring.specs.Same.{one-if}
 use Rattle.same.specs.Same.{SameEnds}
+use Rattle.audit.specs.Audit.{AuditEnds}
 
 -- an example: a call on given lists, and what comes back
 pub data Row : Type 0 where
@@ -21,15 +22,17 @@ pub data Row : Type 0 where
   refuses : (f : List ℕ) (code place : ℕ) → Row
   -- same products of A, D, B and C is yes or no
   same-products : (a d b c : List ℕ) (answer : Bool) → Row
+  -- audit of f, with these given parts, is yes or no; f has these parts
+  audits : (f : List ℕ) (given ps : List (List ℕ)) (answer : Bool) → Row
 
--- the two answers of same products
+-- the two answers of same products and of audit
 abbrev yes : Bool
 yes = true
 
 abbrev no : Bool
 no = false
 
--- the examples marked P, in the order of RULES 7
+-- the examples marked P, in the order of RULES 7 and 13
 unfoldable pub examples : List Row
 examples =
     refuses [] 1 0
@@ -46,6 +49,12 @@ examples =
     ∷ refuses (2 ∷ 1 ∷ []) 3 1
     ∷ same-products (1 ∷ []) (1 ∷ []) (1 ∷ []) (0 ∷ []) no
     ∷ same-products (0 ∷ 1 ∷ []) (0 ∷ 2 ∷ []) (0 ∷ 1 ∷ []) (0 ∷ []) no
+    ∷ audits (1 ∷ 2 ∷ 5 ∷ 6 ∷ []) ((1 ∷ 2 ∷ []) ∷ (0 ∷ 4 ∷ []) ∷ []) ((1 ∷ 2 ∷ []) ∷ (0 ∷ 4 ∷ []) ∷ []) yes
+    ∷ audits (1 ∷ 2 ∷ 5 ∷ 6 ∷ []) ((1 ∷ 2 ∷ []) ∷ (4 ∷ []) ∷ []) ((1 ∷ 2 ∷ []) ∷ (0 ∷ 4 ∷ []) ∷ []) no
+    ∷ audits (1 ∷ 2 ∷ 5 ∷ 6 ∷ []) ((1 ∷ 2 ∷ 5 ∷ 6 ∷ []) ∷ []) ((1 ∷ 2 ∷ []) ∷ (0 ∷ 4 ∷ []) ∷ []) no
+    ∷ audits (1 ∷ 2 ∷ 5 ∷ 6 ∷ []) ((0 ∷ 4 ∷ []) ∷ (1 ∷ 2 ∷ []) ∷ []) ((1 ∷ 2 ∷ []) ∷ (0 ∷ 4 ∷ []) ∷ []) no
+    ∷ audits (1 ∷ 2 ∷ []) ((1 ∷ 2 ∷ []) ∷ (0 ∷ []) ∷ []) ((1 ∷ 2 ∷ []) ∷ []) no
+    ∷ audits (0 ∷ []) [] [] yes
     ∷ []
 
 -- the lent buffers are as long as split of t terms needs, whatever they hold
@@ -72,6 +81,9 @@ Holds maxTerms maxVars (refuses f code place) =
     (lent : Buffers) → EndsOnly (SplitEnds maxTerms maxVars f lent) (refused code 1 place) lent
 Holds maxTerms maxVars (same-products a d b c answer) =
     EndsOnly {B = Unit {0}} (λ other _. SameEnds maxTerms maxVars a d b c other) (accepted (one-if answer)) tt
+Holds maxTerms maxVars (audits f given ps answer) =
+    (lent : Buffers) → Enough maxVars (length f) lent
+    → EndsOnly (AuditEnds maxTerms maxVars f (joined given) (lengths given) lent) (accepted (one-if answer)) (written ps lent)
 
 -- every example of a list holds
 abbrev pub AllHold : (maxTerms maxVars : ℕ) → List Row → Type 0

@@ -1,0 +1,6 @@
+pub mod Comparing
+pub mod Listed
+pub mod Cutting
+pub mod Passing
+pub mod Judging
+pub mod Determined
