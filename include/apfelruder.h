@@ -1,6 +1,6 @@
 /* Apfelruder: sums mod 2 of products, split into parts with no common variable.
  *
- * The seven calls of docs/RULES.md, for C and C++. The library behind them is
+ * The eight calls of docs/RULES.md, for C and C++. The library behind them is
  * proved: for every input, each call gives the answer and leaves the buffers that this page describes.
  * What no proof covers is this declaration itself and what a caller passes: see "Memory" below.
  *
@@ -19,7 +19,9 @@
  *     accepted: code 0, operand 0, place 0; count as told at each call.
  *     refused:  code 1 to 15, count 0, and every buffer holds what it held before the call.
  *               operand: which of the inputs, from 1 in the order of the call; 0 for multiply's Shared,
- *                        TooLarge and Room, which concern no single list.
+ *                        TooLarge and Room, which concern no single list, and where audit's given parts
+ *                        are refused all together. Of audit the approved list is 1 and the k-th given
+ *                        part k + 1.
  *               place:   for Order the index, from 0, of the first term that is not above the one
  *                        before it, in that operand's own list; for Sign and Twice the index, from 0, of
  *                        the byte of the text that shows it; 0 with every other code.
@@ -44,7 +46,7 @@
  * Linking
  *   - target/staticlib/libapfelruder.a (`rt staticlib apfelruder`) is for x86-64. For another machine
  *     scripts/native-archive compiles the same proved module: target/native/libapfelruder.a.
- *   - Either archive defines the seven calls below and no other global symbol.
+ *   - Either archive defines the eight calls below and no other global symbol.
  *   - Of the C library it needs memcpy and memset alone; a program without a C library supplies these.
  */
 #ifndef APFELRUDER_H
@@ -57,20 +59,20 @@
  * on still holds; the major number grows when it may not: another limit or buffer size, another shape or
  * meaning of an answer, a call that is gone. */
 #define APFELRUDER_VERSION_MAJOR 1
-#define APFELRUDER_VERSION_MINOR 2
+#define APFELRUDER_VERSION_MINOR 3
 #define APFELRUDER_VERSION (APFELRUDER_VERSION_MAJOR * 1000 + APFELRUDER_VERSION_MINOR)
 
 /* Limits of a list. */
 #define APFELRUDER_MAX_TERMS 1024
 #define APFELRUDER_MAX_VARS 64
 
-/* Bytes of stack that the comparison holds the calls to: read, write, multiply, split and write text; same products;
+/* Bytes of stack that the comparison holds the calls to: read, write, multiply, split, write text and audit; same products;
  * read text, which keeps the terms of a text twice until equal ones have cancelled. */
 #define APFELRUDER_STACK_BYTES 16384
 #define APFELRUDER_SAME_PRODUCTS_STACK_BYTES 49152
 #define APFELRUDER_READ_TEXT_STACK_BYTES 24576
 
-/* What split needs for a list of t terms, in words of 64 bits. */
+/* What split and audit need for a list of t terms, in words of 64 bits. */
 #define APFELRUDER_PART_TERMS_WORDS(t) ((size_t)(t) + 64)
 #define APFELRUDER_PART_LENGTHS_WORDS 64
 #define APFELRUDER_WORK_WORDS(t) (4 * (size_t)(t))
@@ -84,20 +86,21 @@
 /* The codes of refusal, and when each is given. */
 enum {
     APFELRUDER_ACCEPTED = 0,
-    APFELRUDER_ZERO = 1,      /* split of the empty list */
-    APFELRUDER_TOO_MANY = 2,  /* a list longer than 1,024 terms, a block that says t above 1,024, or a text over
-                                 65,536 bytes or with over 1,024 terms as written */
+    APFELRUDER_ZERO = 1,      /* split of the empty list, or audit with it as the approved one */
+    APFELRUDER_TOO_MANY = 2,  /* a list longer than 1,024 terms, a block that says t above 1,024, a text over 65,536
+                                 bytes or with over 1,024 terms as written, or more than 64 given parts */
     APFELRUDER_ORDER = 3,     /* a term not above the one before it; place = its first such index */
     APFELRUDER_SHARED = 4,    /* multiply: a variable in both lists */
     APFELRUDER_TOO_LARGE = 5, /* multiply: the product of the two lengths is above 1,024;
                                  write_text: the text would be over 65,536 bytes */
     APFELRUDER_ROOM = 6,      /* an output is too short */
-    APFELRUDER_WORK = 7,      /* split: the work area is shorter than 4 words a term */
+    APFELRUDER_WORK = 7,      /* split, audit: the work area is shorter than 4 words a term */
     APFELRUDER_FORM = 8,      /* read: the form number is not 1 */
     APFELRUDER_WIDE = 9,      /* read: n above 64 */
-    APFELRUDER_SHORT = 10,    /* read: the bytes end before the block does */
+    APFELRUDER_SHORT = 10,    /* read: the bytes end before the block does;
+                                 audit: the given lengths add to more words than were lent */
     APFELRUDER_MISFIT = 11,   /* read: n is larger than one more than the highest variable */
-    APFELRUDER_EXTRA = 12,    /* read: bytes after the block */
+    APFELRUDER_EXTRA = 12,    /* read: bytes after the block; audit: the given lengths add to fewer words */
     APFELRUDER_PAD = 13,      /* read: a padding bit is set */
     APFELRUDER_SIGN = 14,     /* read_text: no equation goes on so, or the text ends too early; place = that byte's
                                  index, or the text's length */
@@ -208,6 +211,32 @@ apfelruder_answer apfelruder_read_text(const uint8_t *text, size_t text_len,
  */
 apfelruder_answer apfelruder_write_text(const uint64_t *terms, size_t terms_len,
                                         uint8_t *out, size_t out_len);
+
+/* Says whether given parts are exactly the parts of an approved list: no term more or less, none that can be split again, none
+ * missing, doubled or in another place. In both cases it leaves the right parts.
+ *
+ * Needs   terms: the approved list, t terms. given_terms: the given parts, one after another. given_lengths: their lengths in
+ *         the same order, 64 at most; they add to given_terms_len. part_terms: t + 64 words. part_lengths: 64 words.
+ *         work: 4 t words. The sizes are asked for even where less would do.
+ * Gives   count = 1 for yes, 0 for no. Yes exactly if the given parts are, term for term, what split of the approved list
+ *         gives, in ascending order of their lowest variable. Nothing given (both lengths 0) is right for the list {0}, which
+ *         has no parts. A given part of length 0 is allowed and is no part: the answer is no.
+ *         part_terms, part_lengths and work are left as an accepted split of the approved list leaves them. The number of
+ *         parts is not told: lend part_lengths filled with 0, which is the length of no part.
+ * Refuses in this order:
+ *         2 TooMany (operand 0: more than 64 given lengths), 10 Short (operand 0: the given lengths add to more than
+ *         given_terms_len; the sum is exact, also above 64 bits), 12 Extra (operand 0: they add to fewer),
+ *         2 TooMany (operand 1: t above 1,024, then operands 2 to 65 in turn: a given part longer than that),
+ *         1 Zero (operand 1: t = 0), 3 Order (operand 1, then operands 2 to 65 in turn; place = index in that list),
+ *         6 Room (operand 1: part_terms under t + 64 words), 6 Room (operand 1: part_lengths under 64 words),
+ *         7 Work (operand 1: work under 4 t words).
+ */
+apfelruder_answer apfelruder_audit(const uint64_t *terms, size_t terms_len,
+                                   const uint64_t *given_terms, size_t given_terms_len,
+                                   const uint64_t *given_lengths, size_t given_lengths_len,
+                                   uint64_t *part_terms, size_t part_terms_len,
+                                   uint64_t *part_lengths, size_t part_lengths_len,
+                                   uint64_t *work, size_t work_len);
 
 #ifdef __cplusplus
 }

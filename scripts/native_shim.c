@@ -45,3 +45,9 @@ SHIM(write_text, (apfelruder_answer *, WORDS(t), uint8_t *, size_t), (WORDS(t), 
     module_write_text(&r, t, t_n, out, n);
     return r;
 })
+SHIM(audit, (apfelruder_answer *, WORDS(t), WORDS(g), WORDS(k), OUT(p), OUT(l), OUT(w)),
+     (WORDS(t), WORDS(g), WORDS(k), OUT(p), OUT(l), OUT(w)) {
+    apfelruder_answer r;
+    module_audit(&r, t, t_n, g, g_n, k, k_n, p, p_n, l, l_n, w, w_n);
+    return r;
+})

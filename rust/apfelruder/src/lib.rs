@@ -1,4 +1,4 @@
-//! The seven calls of Apfelruder for Rust programs: a sum modulo 2 of products of variables is split into parts that
+//! The eight calls of Apfelruder for Rust programs: a sum modulo 2 of products of variables is split into parts that
 //! share no variable.
 //!
 //! ```
@@ -38,8 +38,9 @@
 //! # Two ways to call
 //!
 //! The functions of the crate itself answer with a `Result`, and take the room that they need: half a kilobyte at most for
-//! a list that is too long, some 50 kilobytes at most else, and 128 to write a text. Those of [`raw`] work in the caller's
-//! buffers and allocate nothing; [`raw::Answer::result`] makes a `Result` of their answer.
+//! a list that is too long, some 50 kilobytes at most else, and 128 to write a text; audit besides copies the given parts, at
+//! most 1,025 terms of each. Those of [`raw`] work in the caller's buffers and allocate nothing; [`raw::Answer::result`] makes a
+//! `Result` of their answer.
 //!
 //! A list whose terms are not ascending is refused, not sorted. To make one of any terms, sort them and drop equal ones in
 //! pairs: modulo 2 they cancel.
@@ -48,7 +49,7 @@
 //!
 //! | feature | what it is for |
 //! |---|---|
-//! | `split`, `multiply`, `same_products`, `read`, `write`, `read_text`, `write_text` | the call of that name, and its raw call; what is off is not asked of the archive |
+//! | `split`, `multiply`, `same_products`, `read`, `write`, `read_text`, `write_text`, `audit` | the call of that name, and its raw call; what is off is not asked of the archive |
 //! | `alloc` | the functions that answer with a `Vec` or a `String`, that is all but `same_products` |
 //!
 //! All are on by default. The crate is `no_std` and has no dependency; with `default-features = false` and some calls it
@@ -70,6 +71,8 @@ extern crate alloc;
 pub mod raw;
 mod refusal;
 
+#[cfg(all(feature = "audit", feature = "alloc"))]
+mod audit;
 #[cfg(all(feature = "multiply", feature = "alloc"))]
 mod multiply;
 #[cfg(all(feature = "read", feature = "alloc"))]
@@ -85,6 +88,8 @@ mod write;
 #[cfg(all(feature = "write_text", feature = "alloc"))]
 mod write_text;
 
+#[cfg(all(feature = "audit", feature = "alloc"))]
+pub use audit::{audit, Audit};
 #[cfg(all(feature = "multiply", feature = "alloc"))]
 pub use multiply::multiply;
 #[cfg(all(feature = "read", feature = "alloc"))]

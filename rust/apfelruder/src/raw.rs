@@ -24,16 +24,16 @@
 #![allow(unsafe_code)] // the boundary to the archive, and the only place
 use crate::{Refusal, MAX_VARS};
 
-/// The words that split needs for the lengths of the parts.
+/// The words that split and audit need for the lengths of the parts.
 pub const PART_LENGTHS_WORDS: usize = MAX_VARS;
 
-/// The words that split needs for the terms of the parts of a list of t terms.
+/// The words that split and audit need for the terms of the parts of a list of t terms.
 #[must_use]
 pub const fn part_terms_words(t: usize) -> usize {
     t.saturating_add(MAX_VARS)
 }
 
-/// The words that split needs as work area for a list of t terms.
+/// The words that split and audit need as work area for a list of t terms.
 #[must_use]
 pub const fn work_words(t: usize) -> usize {
     t.saturating_mul(4)
@@ -124,6 +124,21 @@ mod c {
             out: *mut u8,
             out_len: usize,
         ) -> super::Answer;
+        #[cfg(feature = "audit")]
+        pub fn apfelruder_audit(
+            terms: *const u64,
+            terms_len: usize,
+            given_terms: *const u64,
+            given_terms_len: usize,
+            given_lengths: *const u64,
+            given_lengths_len: usize,
+            part_terms: *mut u64,
+            part_terms_len: usize,
+            part_lengths: *mut u64,
+            part_lengths_len: usize,
+            work: *mut u64,
+            work_len: usize,
+        ) -> super::Answer;
     }
 }
 
@@ -151,9 +166,9 @@ pub fn split(terms: &[u64], part_terms: &mut [u64], part_lengths: &mut [u64], wo
     }
 }
 
-/// The parts that an accepted [`split`] has left in its buffers, `count` of them. It never reads outside of the buffers:
-/// numbers that split did not give end the walk early.
-#[cfg(feature = "split")]
+/// The parts that an accepted split or audit has left in its buffers, `count` of them. It never reads outside of the buffers:
+/// numbers that no such call gave end the walk early.
+#[cfg(any(feature = "split", feature = "audit"))]
 pub fn parts<'a>(part_terms: &'a [u64], part_lengths: &'a [u64], count: usize) -> impl Iterator<Item = &'a [u64]> + 'a {
     let mut rest = part_terms;
     part_lengths.iter().take(count).map_while(move |&length| {
@@ -235,4 +250,43 @@ pub fn read_text(text: &[u8], out: &mut [u64]) -> Answer {
 pub fn write_text(terms: &[u64], out: &mut [u8]) -> Answer {
     // SAFETY: as for split.
     unsafe { c::apfelruder_write_text(terms.as_ptr(), terms.len(), out.as_mut_ptr(), out.len()) }
+}
+
+/// Says whether given parts are exactly the parts of an approved list of t terms.
+///
+/// `given_terms` holds the given parts one behind the other, `given_lengths` their lengths in the same order. Needs
+/// [`part_terms_words`], [`PART_LENGTHS_WORDS`] and [`work_words`] of t. Count: 1 for yes, 0 for no. Either way the buffers are
+/// left as an accepted split of the approved list leaves them: the parts are there. How many is not said: lend
+/// `part_lengths` filled with 0, which is the length of no part.
+///
+/// Refuses, in this order: 2 `TooMany` (operand 0: more than 64 given lengths), 10 `Short` (operand 0: the lengths add to more
+/// words than `given_terms` has; they may add to more than a `u64` holds), 12 `Extra` (operand 0: they add to fewer), 2 `TooMany`
+/// (operand 1: the approved list, then operands 2 to 65: the given parts), 1 `Zero`, 3 `Order` (operands as for `TooMany`; the place is an
+/// index in that list), 6 `Room` (part terms, then lengths), 7 `Work`. A given part of length 0 is no refusal.
+#[cfg(feature = "audit")]
+pub fn audit(
+    terms: &[u64],
+    given_terms: &[u64],
+    given_lengths: &[u64],
+    part_terms: &mut [u64],
+    part_lengths: &mut [u64],
+    work: &mut [u64],
+) -> Answer {
+    // SAFETY: as for split.
+    unsafe {
+        c::apfelruder_audit(
+            terms.as_ptr(),
+            terms.len(),
+            given_terms.as_ptr(),
+            given_terms.len(),
+            given_lengths.as_ptr(),
+            given_lengths.len(),
+            part_terms.as_mut_ptr(),
+            part_terms.len(),
+            part_lengths.as_mut_ptr(),
+            part_lengths.len(),
+            work.as_mut_ptr(),
+            work.len(),
+        )
+    }
 }

@@ -8,7 +8,7 @@ use alloc::vec::Vec;
 /// use apfelruder::{read, Refusal};
 ///
 /// assert_eq!(read(&[0x10, 0x60, 0x04, 0x2a, 0xe0]), Ok(vec![1, 2, 5, 6]));
-/// assert_eq!(read(&[0x10, 0x60, 0x04, 0x2a]), Err(Refusal::Short));
+/// assert_eq!(read(&[0x10, 0x60, 0x04, 0x2a]), Err(Refusal::Short { operand: 1 }));
 /// ```
 ///
 /// # Errors

@@ -12,17 +12,18 @@ use core::{error, fmt};
 #[derive(Clone, Copy, Debug, PartialEq, Eq, Hash)]
 #[non_exhaustive]
 pub enum Refusal {
-    /// Code 1: split of the empty list, which is zero and is no product of parts. Operand 1.
+    /// Code 1: split of the empty list, which is zero and is no product of parts; audit, if that is the approved list. Operand 1.
     Zero,
     /// Code 2: a list has more than 1,024 terms; from read, the block says so; from read text, so many are written, or the
-    /// text has more than 65,536 bytes.
+    /// text has more than 65,536 bytes; from audit also, more than 64 parts are given.
     TooMany {
-        /// Which list: 1 or 2 from multiply, 1 to 4 (a, d, b, c) from same products, 1 else.
+        /// Which list: 1 or 2 from multiply, 1 to 4 (a, d, b, c) from same products, 1 (approved) to 65 from audit, 1 else.
+        /// 0 from audit if there are too many given parts.
         operand: u64,
     },
     /// Code 3: a term is not above the one before it. Terms ascend and none stands twice.
     Order {
-        /// Which list: 1 or 2 from multiply, 1 to 4 (a, d, b, c) from same products, 1 else.
+        /// Which list: 1 or 2 from multiply, 1 to 4 (a, d, b, c) from same products, 1 (approved) to 65 from audit, 1 else.
         operand: u64,
         /// The index in that list of the first such term, 1 or more; from read, of the term and not of a byte.
         place: u64,
@@ -40,18 +41,26 @@ pub enum Refusal {
         /// 0 from multiply, whose room depends on both lists; 1 else.
         operand: u64,
     },
-    /// Code 7: split, the work area is shorter than 4 words a term. Operand 1. Only the raw call can give it.
+    /// Code 7: split and audit, the work area is shorter than 4 words a term. Operand 1. Only raw calls can give it.
     Work,
-    /// Code 8: read, the form number is not 1. Operand 1, as for all that follow.
+    /// Code 8: read, the form number is not 1. Operand 1, as for all that follow and have no operand of their own.
     Form,
     /// Code 9: read, the block says n above 64.
     Wide,
-    /// Code 10: read, the bytes end before the block does. Under 3 bytes is always this.
-    Short,
+    /// Code 10: read, the bytes end before the block does, and under 3 bytes is always this; audit, the given lengths add to
+    /// more words than were lent. The safe audit lends what it counts, so only its raw call can give it.
+    Short {
+        /// 1 from read, 0 from audit.
+        operand: u64,
+    },
     /// Code 11: read, the block's n is larger than one more than the highest variable of its list.
     Misfit,
-    /// Code 12: read, there are bytes after the block.
-    Extra,
+    /// Code 12: read, there are bytes after the block; audit, the given lengths add to fewer words than were lent, which only
+    /// its raw call can give.
+    Extra {
+        /// 1 from read, 0 from audit.
+        operand: u64,
+    },
     /// Code 13: read, one of the bits that fill up the last byte is set.
     Pad,
     /// Code 14: read text, no equation goes on so, or the text ends too early.
@@ -89,9 +98,9 @@ impl Refusal {
             7 => Refusal::Work,
             8 => Refusal::Form,
             9 => Refusal::Wide,
-            10 => Refusal::Short,
+            10 => Refusal::Short { operand },
             11 => Refusal::Misfit,
-            12 => Refusal::Extra,
+            12 => Refusal::Extra { operand },
             13 => Refusal::Pad,
             14 => Refusal::Sign { place },
             15 => Refusal::Twice { place },
@@ -118,9 +127,9 @@ impl Refusal {
             Refusal::Work => 7,
             Refusal::Form => 8,
             Refusal::Wide => 9,
-            Refusal::Short => 10,
+            Refusal::Short { .. } => 10,
             Refusal::Misfit => 11,
-            Refusal::Extra => 12,
+            Refusal::Extra { .. } => 12,
             Refusal::Pad => 13,
             Refusal::Sign { .. } => 14,
             Refusal::Twice { .. } => 15,
@@ -136,6 +145,8 @@ impl Refusal {
             | Refusal::Order { operand, .. }
             | Refusal::TooLarge { operand }
             | Refusal::Room { operand }
+            | Refusal::Short { operand }
+            | Refusal::Extra { operand }
             | Refusal::Unknown { operand, .. } => operand,
             Refusal::Shared => 0,
             _ => 1,
@@ -175,6 +186,7 @@ impl fmt::Display for List {
 impl fmt::Display for Refusal {
     fn fmt(&self, f: &mut fmt::Formatter<'_>) -> fmt::Result {
         let sentence = match *self {
+            Refusal::TooMany { operand: 0 } => "more than 64 parts are given",
             Refusal::TooMany { operand: 1 } => {
                 "the first list has more than 1,024 terms, or the text more than 65,536 bytes"
             }
@@ -203,9 +215,11 @@ impl fmt::Display for Refusal {
             Refusal::Work => "the work area is shorter than 4 words a term",
             Refusal::Form => "the form number of the block is not 1",
             Refusal::Wide => "the block says n above 64",
-            Refusal::Short => "the bytes end before the block does",
+            Refusal::Short { operand: 0 } => "the lengths of the given parts add to more words than were lent",
+            Refusal::Short { .. } => "the bytes end before the block does",
             Refusal::Misfit => "the block says a larger n than its highest variable asks for",
-            Refusal::Extra => "there are bytes after the block",
+            Refusal::Extra { operand: 0 } => "the lengths of the given parts add to fewer words than were lent",
+            Refusal::Extra { .. } => "there are bytes after the block",
             Refusal::Pad => "a padding bit at the end of the block is set",
         };
         f.write_str(sentence)

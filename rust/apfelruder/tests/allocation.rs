@@ -53,6 +53,25 @@ fn split_of_a_long_list() {
     assert_eq!(bytes, (1088 + 4096 + 20) * 8 + 10 * size_of::<Vec<u64>>());
 }
 
+#[cfg(feature = "audit")]
+#[test]
+fn audit_of_long_lists() {
+    let long = vec![5; 1_000_000];
+    let (told, bytes) = taken(|| apfelruder::audit(&long, &[[1]]));
+    assert_eq!(told, Err(apfelruder::Refusal::TooMany { operand: 1 }));
+    assert!(bytes <= 65 * 8, "{bytes} bytes");
+    // of lists that are too long no more is copied than shows it, and nothing if there are too many of them
+    let (told, bytes) = taken(|| apfelruder::audit(&[1], &[&long, &long]));
+    assert_eq!((told, bytes), (Err(apfelruder::Refusal::TooMany { operand: 2 }), (65 + 4 + 2 * 1025) * 8));
+    let (told, bytes) = taken(|| apfelruder::audit(&[1], &[&long; 65]));
+    assert_eq!((told, bytes), (Err(apfelruder::Refusal::TooMany { operand: 0 }), (65 + 4) * 8));
+    let all: Vec<u64> = (0..1024).collect();
+    let (told, bytes) = taken(|| apfelruder::audit(&all, &[&all]));
+    assert_eq!(told.map(|told| (told.yes, told.parts.len())), Ok((false, 10)));
+    // the given list, then as for split
+    assert_eq!(bytes, (1024 + 1088 + 4096 + 20) * 8 + 10 * size_of::<Vec<u64>>());
+}
+
 #[cfg(feature = "multiply")]
 #[test]
 fn multiply_of_long_lists() {

@@ -30,14 +30,14 @@ mod safe {
         assert_eq!(terms.len(), MAX_TERMS);
         assert_eq!(read(&block), Ok(terms));
         block.push(0);
-        assert_eq!(read(&block), Err(Refusal::Extra));
+        assert_eq!(read(&block), Err(Refusal::Extra { operand: 1 }));
     }
 
     #[test]
     fn refusals() {
-        assert_eq!(read(&[]), Err(Refusal::Short));
-        assert_eq!(read(&[0x10, 0x00]), Err(Refusal::Short));
-        assert_eq!(read(&[0x10, 0x60, 0x04, 0x2a]), Err(Refusal::Short));
+        assert_eq!(read(&[]), Err(Refusal::Short { operand: 1 }));
+        assert_eq!(read(&[0x10, 0x00]), Err(Refusal::Short { operand: 1 }));
+        assert_eq!(read(&[0x10, 0x60, 0x04, 0x2a]), Err(Refusal::Short { operand: 1 }));
         assert_eq!(read(&[0x20, 0x00, 0x01]), Err(Refusal::Form));
         // n = 65, then 127: 0001 1000001 .., 0001 1111111 ..
         assert_eq!(read(&[0x18, 0x20, 0x00]), Err(Refusal::Wide));
@@ -45,7 +45,7 @@ mod safe {
         // t = 1,025, then 8,191: .. 0010000000001, .. 1111111111111
         assert_eq!(read(&[0x10, 0x04, 0x01]), Err(Refusal::TooMany { operand: 1 }));
         assert_eq!(read(&[0x10, 0x1f, 0xff]), Err(Refusal::TooMany { operand: 1 }));
-        assert_eq!(read(&[0x10, 0x60, 0x04, 0x2a, 0xe0, 0x00]), Err(Refusal::Extra));
+        assert_eq!(read(&[0x10, 0x60, 0x04, 0x2a, 0xe0, 0x00]), Err(Refusal::Extra { operand: 1 }));
         assert_eq!(read(&[0x10, 0x00, 0x02]), Err(Refusal::Order { operand: 1, place: 1 }));
         // n = 2 and the terms 1, 3, 2: 01 11 10
         assert_eq!(read(&[0x10, 0x40, 0x03, 0x78]), Err(Refusal::Order { operand: 1, place: 2 }));
@@ -57,12 +57,12 @@ mod safe {
     #[test]
     fn the_order_of_checks() {
         // short before form; form before wide; wide before too many; too many before short
-        assert_eq!(read(&[0x20, 0x00]), Err(Refusal::Short));
+        assert_eq!(read(&[0x20, 0x00]), Err(Refusal::Short { operand: 1 }));
         assert_eq!(read(&[0x28, 0x20, 0x00]), Err(Refusal::Form));
         assert_eq!(read(&[0x18, 0x24, 0x01]), Err(Refusal::Wide));
         assert_eq!(read(&[0x10, 0x64, 0x01]), Err(Refusal::TooMany { operand: 1 }));
         // extra before order; order before misfit: n = 2, terms 0, 0; misfit before pad: n = 1, the term 0, a bit behind it
-        assert_eq!(read(&[0x10, 0x00, 0x02, 0x00]), Err(Refusal::Extra));
+        assert_eq!(read(&[0x10, 0x00, 0x02, 0x00]), Err(Refusal::Extra { operand: 1 }));
         assert_eq!(read(&[0x10, 0x40, 0x02, 0x00]), Err(Refusal::Order { operand: 1, place: 1 }));
         assert_eq!(read(&[0x10, 0x20, 0x01, 0x01]), Err(Refusal::Misfit));
     }

@@ -5,8 +5,9 @@ use std::collections::HashSet;
 use std::error::Error;
 
 /// Each refusal with its code, operand and place.
-const TABLE: [(Refusal, u64, u64, u64); 17] = [
+const TABLE: [(Refusal, u64, u64, u64); 20] = [
     (Refusal::Zero, 1, 1, 0),
+    (Refusal::TooMany { operand: 0 }, 2, 0, 0),
     (Refusal::TooMany { operand: 2 }, 2, 2, 0),
     (Refusal::Order { operand: 4, place: 1023 }, 3, 4, 1023),
     (Refusal::Shared, 4, 0, 0),
@@ -17,9 +18,11 @@ const TABLE: [(Refusal, u64, u64, u64); 17] = [
     (Refusal::Work, 7, 1, 0),
     (Refusal::Form, 8, 1, 0),
     (Refusal::Wide, 9, 1, 0),
-    (Refusal::Short, 10, 1, 0),
+    (Refusal::Short { operand: 0 }, 10, 0, 0),
+    (Refusal::Short { operand: 1 }, 10, 1, 0),
     (Refusal::Misfit, 11, 1, 0),
-    (Refusal::Extra, 12, 1, 0),
+    (Refusal::Extra { operand: 0 }, 12, 0, 0),
+    (Refusal::Extra { operand: 1 }, 12, 1, 0),
     (Refusal::Pad, 13, 1, 0),
     (Refusal::Sign { place: 65536 }, 14, 1, 65536),
     (Refusal::Twice { place: 5 }, 15, 1, 5),
@@ -44,7 +47,16 @@ fn accepted_is_no_refusal() {
 #[test]
 fn any_numbers_are_kept() {
     // a code of a later version; codes of the table with an operand or a place that it does not have
-    let strange = [(16, 2, 3), (u64::MAX, u64::MAX, u64::MAX), (1, 2, 0), (4, 1, 0), (6, 1, 9), (13, 1, 1), (14, 2, 3)];
+    let strange = [
+        (16, 2, 3),
+        (u64::MAX, u64::MAX, u64::MAX),
+        (1, 2, 0),
+        (4, 1, 0),
+        (6, 1, 9),
+        (10, 0, 1),
+        (13, 1, 1),
+        (14, 2, 3),
+    ];
     for (code, operand, place) in strange {
         let told = Answer { code, operand, place, count: 0 }.result();
         assert_eq!(told, Err(Refusal::Unknown { code, operand, place }));
@@ -66,6 +78,11 @@ fn sentences() {
     assert_eq!(said(Refusal::TooMany { operand: 3 }), "the third list has more than 1,024 terms");
     assert_eq!(said(Refusal::TooMany { operand: 4 }), "the fourth list has more than 1,024 terms");
     assert_eq!(said(Refusal::TooMany { operand: 5 }), "list 5 has more than 1,024 terms");
+    assert_eq!(said(Refusal::TooMany { operand: 0 }), "more than 64 parts are given");
+    assert_eq!(said(Refusal::Short { operand: 1 }), "the bytes end before the block does");
+    assert_eq!(said(Refusal::Extra { operand: 1 }), "there are bytes after the block");
+    assert_eq!(said(Refusal::Short { operand: 0 }), "the lengths of the given parts add to more words than were lent");
+    assert_eq!(said(Refusal::Extra { operand: 0 }), "the lengths of the given parts add to fewer words than were lent");
     assert_eq!(said(Refusal::Shared), "a variable is in both lists");
     assert_eq!(said(Refusal::TooLarge { operand: 0 }), "the product would have more than 1,024 terms");
     assert_eq!(said(Refusal::TooLarge { operand: 1 }), "the text would have more than 65,536 bytes");

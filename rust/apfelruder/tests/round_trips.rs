@@ -1,8 +1,8 @@
-//! The calls against each other: what write packs read unpacks, what is written as text reads as the list, and the parts of a
-//! list multiply to it.
+//! The calls against each other: what write packs read unpacks, what is written as text reads as the list, the parts of a
+//! list multiply to it, and an audit finds that they are the parts.
 #![cfg(all(feature = "alloc", feature = "split", feature = "multiply", feature = "read", feature = "write"))]
-#![cfg(all(feature = "read_text", feature = "write_text"))]
-use apfelruder::{multiply, read, read_text, split, write, write_text};
+#![cfg(all(feature = "read_text", feature = "write_text", feature = "audit"))]
+use apfelruder::{audit, multiply, read, read_text, split, write, write_text};
 
 /// Lists of all shapes: constants, one term, many variables, the limits.
 fn lists() -> Vec<Vec<u64>> {
@@ -49,5 +49,19 @@ fn split_and_multiplied() {
         for part in &parts {
             assert_eq!(split(part), Ok(vec![part.clone()]));
         }
+    }
+}
+
+#[test]
+fn split_and_audited() {
+    for list in lists() {
+        let parts = split(&list).unwrap();
+        let told = audit(&list, &parts).unwrap();
+        assert!(told.yes, "{list:?}");
+        assert_eq!(told.parts, parts);
+        // the whole in one piece is right if it is the one part
+        let whole = audit(&list, &[&list]).unwrap();
+        assert_eq!(whole.yes, parts.len() == 1, "{list:?}");
+        assert_eq!(whole.parts, parts);
     }
 }

@@ -2,8 +2,8 @@
  * For a machine that cannot link the archive into the comparing program but can run it, as under an emulator.
  *
  * All numbers are words of 64 bits in the machine's order. A call: its number (0 split, 1 multiply, 2 same products,
- * 3 read, 4 write, 5 read text, 6 write text); for each slice where it begins, in bytes, and its length; the length in
- * words of the memory that holds them all, and that memory. What comes back: the four numbers, and the memory as the call
+ * 3 read, 4 write, 5 read text, 6 write text, 7 audit); for each slice where it begins, in bytes, and its length; the length
+ * in words of the memory that holds them all, and that memory. What comes back: the four numbers, and the memory as the call
  * left it. The comparing program lays the slices out, so it sees what was written between them. If 8 is added to the number
  * of a call, the bytes of stack that it took come first.
  * Compiled with -DNO_SPLIT, -DNO_MULTIPLY, .. it does without that call. */
@@ -17,12 +17,12 @@ enum { MOST_WORDS = 1 << 20 };
 static uint64_t memory[MOST_WORDS];
 
 /* For each call the size of the elements of its slices; 0: no such slice. */
-enum { CALLS = 7 };
-static const unsigned char element[CALLS][4] = {{8, 8, 8, 8}, {8, 8, 8, 0}, {8, 8, 8, 8}, {1, 8, 0, 0},
-                                                {8, 1, 0, 0}, {1, 8, 0, 0}, {8, 1, 0, 0}};
+enum { CALLS = 8, SLICES = 6 };
+static const unsigned char element[CALLS][SLICES] = {{8, 8, 8, 8}, {8, 8, 8}, {8, 8, 8, 8}, {1, 8},
+                                                     {8, 1},       {1, 8},    {8, 1},       {8, 8, 8, 8, 8, 8}};
 
-static uint64_t lengths[4], words;
-static unsigned char *slices[4];
+static uint64_t lengths[SLICES], words;
+static unsigned char *slices[SLICES];
 
 static int take(void *to, size_t bytes) {
     for (size_t have = 0; have < bytes;) {
@@ -44,11 +44,11 @@ static int give(const void *from, size_t bytes) {
 
 /* Takes the slices' places and the memory; 0 at the end of input, or if a slice lies outside or a word is not aligned. */
 static int take_memory(uint64_t call) {
-    uint64_t starts[4];
-    for (int i = 0; i < 4 && element[call][i]; i++)
+    uint64_t starts[SLICES];
+    for (int i = 0; i < SLICES && element[call][i]; i++)
         if (!take(&starts[i], 8) || !take(&lengths[i], 8)) return 0;
     if (!take(&words, 8) || words > MOST_WORDS) return 0;
-    for (int i = 0; i < 4 && element[call][i]; i++) {
+    for (int i = 0; i < SLICES && element[call][i]; i++) {
         if (starts[i] > 8 * words || lengths[i] > (8 * words - starts[i]) / element[call][i]) return 0;
         if (starts[i] % element[call][i]) return 0;
         slices[i] = (unsigned char *)memory + starts[i];
@@ -82,6 +82,9 @@ static apfelruder_answer make(uint64_t call) {
 #endif
 #ifndef NO_WRITE_TEXT
     case 6: return apfelruder_write_text(WORDS(0), BYTES(1));
+#endif
+#ifndef NO_AUDIT
+    case 7: return apfelruder_audit(WORDS(0), WORDS(1), WORDS(2), WORDS(3), WORDS(4), WORDS(5));
 #endif
     default: return none;
     }

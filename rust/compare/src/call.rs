@@ -10,14 +10,23 @@ pub enum Call {
     Write,
     ReadText,
     WriteText,
+    Audit,
 }
 
 impl Call {
-    pub const ALL: [Call; 7] =
-        [Call::Split, Call::Multiply, Call::SameProducts, Call::Read, Call::Write, Call::ReadText, Call::WriteText];
+    pub const ALL: [Call; 8] = [
+        Call::Split,
+        Call::Multiply,
+        Call::SameProducts,
+        Call::Read,
+        Call::Write,
+        Call::ReadText,
+        Call::WriteText,
+        Call::Audit,
+    ];
 
     pub fn name(self) -> &'static str {
-        ["split", "multiply", "same_products", "read", "write", "read_text", "write_text"][self as usize]
+        ["split", "multiply", "same_products", "read", "write", "read_text", "write_text", "audit"][self as usize]
     }
 }
 
@@ -102,6 +111,12 @@ impl Request {
         Request::new(Call::WriteText, vec![Slice::Words(terms.to_vec()), Slice::Bytes(out)])
     }
 
+    /// Audit: the approved list, the given parts one behind the other, their lengths, and what is lent as for split.
+    pub fn audit(approved: &[u64], given: &[u64], lengths: &[u64], lent: [Vec<u64>; 3]) -> Request {
+        let inputs = [approved, given, lengths].map(|input| Slice::Words(input.to_vec()));
+        Request::new(Call::Audit, inputs.into_iter().chain(lent.map(Slice::Words)).collect())
+    }
+
     /// Multiply of two parts of one piece of memory.
     pub fn multiply_within(words: &[u64], parts: [Range<usize>; 2], out: Vec<u64>) -> Request {
         let mut request = Request::multiply(&words[parts[0].clone()], &words[parts[1].clone()], out);
@@ -112,6 +127,14 @@ impl Request {
     /// Same products of four parts of one piece of memory.
     pub fn same_products_within(words: &[u64], parts: [Range<usize>; 4]) -> Request {
         let mut request = Request::same_products([0, 1, 2, 3].map(|i: usize| &words[parts[i].clone()]));
+        request.pool = Some(Pool { words: words.to_vec(), parts: parts.to_vec() });
+        request
+    }
+
+    /// Audit with its three inputs in one piece of memory.
+    pub fn audit_within(words: &[u64], parts: [Range<usize>; 3], lent: [Vec<u64>; 3]) -> Request {
+        let [approved, given, lengths] = [0, 1, 2].map(|i: usize| &words[parts[i].clone()]);
+        let mut request = Request::audit(approved, given, lengths, lent);
         request.pool = Some(Pool { words: words.to_vec(), parts: parts.to_vec() });
         request
     }
@@ -129,6 +152,8 @@ pub enum Expected {
     Said(bool),
     /// Split: these parts.
     Parts(Vec<Vec<u64>>),
+    /// Audit: yes or no, and these parts.
+    Audited(bool, Vec<Vec<u64>>),
 }
 
 impl Expected {
@@ -150,6 +175,14 @@ impl Expected {
                 lay_out(parts, terms, lengths);
                 work.fill(0);
                 accepted(parts.len())
+            }
+            (
+                Expected::Audited(yes, parts),
+                [_, _, _, Slice::Words(terms), Slice::Words(lengths), Slice::Words(work)],
+            ) => {
+                lay_out(parts, terms, lengths);
+                work.fill(0);
+                accepted(*yes as usize)
             }
             _ => panic!("an answer that {} does not give", request.call.name()),
         };
@@ -182,6 +215,10 @@ pub fn independently(request: &Request) -> Reply {
         (Call::Write, [Slice::Words(t), Slice::Bytes(out)]) => independent::write(t, out),
         (Call::ReadText, [Slice::Bytes(text), Slice::Words(out)]) => independent::read_text(text, out),
         (Call::WriteText, [Slice::Words(t), Slice::Bytes(out)]) => independent::write_text(t, out),
+        (
+            Call::Audit,
+            [Slice::Words(t), Slice::Words(g), Slice::Words(n), Slice::Words(p), Slice::Words(l), Slice::Words(w)],
+        ) => independent::audit(t, g, n, p, l, w),
         _ => panic!("slices that {} does not take", request.call.name()),
     };
     Reply { answer: [answer.code, answer.operand, answer.place, answer.count], slices }

@@ -4,6 +4,7 @@
 //!     compare --seed N --seconds S [--bridge ..]   random lists, products, blocks and refusals for so long
 //!     compare --stack [--bridge ..]                only the stack that the calls take
 //!     compare --calls read,write ..                only these calls
+//!     compare --share 8 ..                         of the fixed run, an eighth of what is made by chance
 //!     compare --program COMMAND ..                 the printed split of a program
 //!
 //! Without --bridge the archive must have been linked in (feature "linked"). --bridge and --program take the rest of the
@@ -23,8 +24,10 @@ mod run;
 mod stack;
 
 use call::Call;
-use families::{blocks, examples, kinds, lengths, lists, quadruples, refusals, shared, sizes, small, texts, written};
+use families::{audit_refusals, audits, blocks, examples, kinds, lengths, lists};
+use families::{quadruples, refusals, shared, sizes, small, texts, written};
 use peer::{Bridge, Peer};
+use random::Random;
 use run::Run;
 use std::time::{Duration, Instant};
 
@@ -32,15 +35,22 @@ struct Wishes {
     seed: Option<u64>,
     seconds: Option<u64>,
     calls: Vec<Call>,
+    share: usize,
     stack_alone: bool,
     bridge: Vec<String>,
     program: Vec<String>,
 }
 
 fn wishes() -> Result<Wishes, String> {
-    let calls_all = Call::ALL.to_vec();
-    let mut wishes =
-        Wishes { seed: None, seconds: None, calls: calls_all, stack_alone: false, bridge: vec![], program: vec![] };
+    let mut wishes = Wishes {
+        seed: None,
+        seconds: None,
+        calls: Call::ALL.to_vec(),
+        share: 1,
+        stack_alone: false,
+        bridge: vec![],
+        program: vec![],
+    };
     let mut words = std::env::args().skip(1);
     while let Some(word) = words.next() {
         match word.as_str() {
@@ -50,6 +60,7 @@ fn wishes() -> Result<Wishes, String> {
             "--seed" => wishes.seed = Some(number(words.next())?),
             "--seconds" => wishes.seconds = Some(number(words.next())?),
             "--calls" => wishes.calls = calls(&words.next().unwrap_or_default())?,
+            "--share" => wishes.share = number(words.next())?.clamp(1, 100) as usize,
             _ => return Err(format!("unknown word {word}; see the head of compare/src/main.rs")),
         }
     }
@@ -97,10 +108,12 @@ fn start() -> Result<(), String> {
     };
     let names: Vec<&str> = wishes.calls.iter().map(|c| c.name()).collect();
     let seed = wishes.seed.unwrap_or(1);
-    println!("calls: {}; seed {seed}", names.join(", "));
+    let share =
+        if wishes.share > 1 { format!("; of what is made by chance 1 in {}", wishes.share) } else { String::new() };
+    println!("calls: {}; seed {seed}{share}", names.join(", "));
     let mut run = Run::new(peer, wishes.calls, seed);
     if !wishes.stack_alone {
-        compare(&mut run, wishes.seconds, seed)?;
+        compare(&mut run, wishes.seconds, wishes.share, seed)?;
     }
     if wishes.seconds.is_none() && !run.measure_stack(seed)? {
         println!("a call took more stack than include/apfelruder.h states");
@@ -109,10 +122,10 @@ fn start() -> Result<(), String> {
     Ok(())
 }
 
-fn compare(run: &mut Run, seconds: Option<u64>, seed: u64) -> Result<(), String> {
+fn compare(run: &mut Run, seconds: Option<u64>, share: usize, seed: u64) -> Result<(), String> {
     let ended = report::caught(|| {
         match seconds {
-            None => fixed(run),
+            None => fixed(run, share, seed),
             Some(seconds) => for_a_while(run, Duration::from_secs(seconds)),
         }
         Ok(())
@@ -123,35 +136,50 @@ fn compare(run: &mut Run, seconds: Option<u64>, seed: u64) -> Result<(), String>
     run.report()
 }
 
-/// The run of the gate.
-fn fixed(run: &mut Run) {
+/// The run of the gate. Of what is made by chance, and of blocks and texts with every bit or byte changed, only a share if that
+/// is wanted; the families are the same.
+fn fixed(run: &mut Run, share: usize, seed: u64) {
+    if Call::ALL.into_iter().any(|call| call != Call::Audit && run.has(call)) {
+        fixed_others(run, share);
+    }
+    // from a seed of their own, so that they are the same if nothing else is made before
+    run.random = Random::new(!seed);
+    audits::all(run);
+    audits::random(run, 6_000 / share);
+    audits::long(run, 40);
+    audits::cube(run);
+    audit_refusals::all(run);
+    audit_refusals::random(run, 10_000 / share);
+}
+
+fn fixed_others(run: &mut Run, share: usize) {
     examples::all(run);
     refusals::all(run);
-    refusals::random(run, 20_000);
+    refusals::random(run, 20_000 / share);
     kinds::all(run);
     small::all(run);
     lengths::all(run);
-    shared::all(run, 10_000);
+    shared::all(run, 10_000 / share);
     sizes::all(run);
-    blocks::random(run, 20_000);
-    blocks::damaged(run, 300, true);
-    blocks::noise(run, 60_000);
+    blocks::random(run, 20_000 / share);
+    blocks::damaged(run, 300 / share, share == 1);
+    blocks::noise(run, 60_000 / share);
     lists::exhaustive(run);
     run.family("products with known factors, to 64 terms");
-    lists::products(run, 120_000, 64, 1);
+    lists::products(run, 120_000 / share, 64, 1);
     run.family("products with known factors, to 256 terms");
-    lists::products(run, 3_000, 256, 1);
+    lists::products(run, 3_000 / share, 256, 1);
     run.family("products with known factors, to 1,024 terms");
-    lists::products(run, 6_000, 1024, 40);
-    lists::long(run);
-    random_lists(run, 1);
+    lists::products(run, 6_000 / share, 1024, 40);
+    lists::long(run, share);
+    random_lists(run, share);
     quadruples::exhaustive(run);
-    random_quadruples(run, 1);
+    random_quadruples(run, share);
     quadruples::long(run);
-    texts::all(run);
-    texts::random(run, 20_000);
+    texts::all(run, share);
+    texts::random(run, 20_000 / share);
     written::all(run);
-    written::random(run, 10_000);
+    written::random(run, 10_000 / share);
 }
 
 fn random_lists(run: &mut Run, share: usize) {
@@ -189,6 +217,7 @@ fn for_a_while(run: &mut Run, time: Duration) {
     refusals::all(run);
     texts::refusals(run);
     written::refusals(run);
+    audit_refusals::refusals(run);
     while Instant::now() < end {
         refusals::random(run, 2_000);
         shared::all(run, 500);
@@ -204,5 +233,8 @@ fn for_a_while(run: &mut Run, time: Duration) {
         texts::random(run, 500);
         texts::damaged(run, 5, false);
         written::random(run, 300);
+        audits::random(run, 100);
+        audits::long(run, 1);
+        audit_refusals::random(run, 200);
     }
 }

@@ -187,6 +187,8 @@ mod linked {
             Call::ReadText => Some(raw::read_text(row.lent(0), row.out(1))),
             #[cfg(feature = "write_text")]
             Call::WriteText => Some(raw::write_text(row.lent(0), row.out(1))),
+            #[cfg(feature = "audit")]
+            Call::Audit => Some(raw::audit(row.lent(0), row.lent(1), row.lent(2), row.out(3), row.out(4), row.out(5))),
             #[allow(unreachable_patterns)]
             _ => None,
         }

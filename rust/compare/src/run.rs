@@ -146,4 +146,7 @@ fn refusals() -> impl Iterator<Item = Refusal> {
         .chain(one(Call::Write, &[2, 3, 6]))
         .chain(one(Call::ReadText, &[2, 6, 14, 15]))
         .chain(one(Call::WriteText, &[2, 3, 5, 6]))
+        .chain([2, 10, 12].map(|code| (Call::Audit, code, 0)))
+        .chain(lists(Call::Audit, 65))
+        .chain(one(Call::Audit, &[1, 6, 7]))
 }

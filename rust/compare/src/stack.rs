@@ -115,8 +115,14 @@ mod tests {
     #[test]
     fn structured_inputs_are_lists() {
         let random = &mut Random::new(3);
-        let calls =
-            [(Call::Split, 1), (Call::Multiply, 2), (Call::SameProducts, 4), (Call::Write, 1), (Call::WriteText, 1)];
+        let calls = [
+            (Call::Split, 1),
+            (Call::Multiply, 2),
+            (Call::SameProducts, 4),
+            (Call::Write, 1),
+            (Call::WriteText, 1),
+            (Call::Audit, 1),
+        ];
         for (call, inputs) in calls {
             for _ in 0..500 {
                 let request = deep::structured(call, &[(); deep::GENES].map(|()| random.word())).request;

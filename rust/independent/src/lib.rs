@@ -7,9 +7,12 @@
 //! - multiply makes all unions and sorts them;
 //! - blocks are taken apart and put together bit by bit;
 //! - texts are cut at their signs, and the place of a fault is found by asking of beginnings of the text whether an equation
-//!   begins so.
+//!   begins so;
+//! - audit holds the given parts to the definition of parts, multiplies them as sets, and asks of each whether it splits by the
+//!   parts that its two halves have in common.
 
 mod answer;
+mod audit;
 mod blocks;
 mod parts;
 mod printed;
@@ -17,6 +20,7 @@ mod products;
 mod texts;
 
 pub use answer::Answer;
+pub use audit::{audit, parts_by_halves};
 pub use blocks::{read, write};
 pub use parts::{parts_by_counting, parts_of, split};
 pub use printed::printed_split;

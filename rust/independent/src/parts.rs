@@ -31,7 +31,7 @@ pub fn split(terms: &[u64], part_terms: &mut [u64], part_lengths: &mut [u64], wo
 }
 
 /// The projection onto a set of variables (RULES 2.2).
-fn projection(list: &[u64], onto: u64) -> Vec<u64> {
+pub(crate) fn projection(list: &[u64], onto: u64) -> Vec<u64> {
     list.iter().map(|t| t & onto).collect::<BTreeSet<u64>>().into_iter().collect()
 }
 

@@ -3,7 +3,7 @@ use crate::answer::{check_lists, Answer};
 use std::collections::HashMap;
 use std::hash::{BuildHasherDefault, Hasher};
 
-fn variables(list: &[u64]) -> u64 {
+pub(crate) fn variables(list: &[u64]) -> u64 {
     list.iter().fold(0, |v, t| v | t)
 }
 

@@ -1,5 +1,5 @@
 //! Inputs on which the calls go deep, for the measurement of the stack: fixed ones, and any number made of factors.
-use super::{block_of, full_text, product, text_bytes, text_of};
+use super::{audit_room, block_of, full_text, product, text_bytes, text_of};
 use crate::call::{Call, Request};
 use crate::random::Random;
 
@@ -20,6 +20,10 @@ fn request(call: Call, lists: &[&[u64]]) -> Request {
         (Call::Write, [f]) => Request::write(f, vec![7; super::block_bytes(f)]),
         (Call::ReadText, [f]) => Request::read_text(&text_of(f), vec![7; f.len()]),
         (Call::WriteText, [f]) => Request::write_text(f, vec![7; text_bytes(f)]),
+        (Call::Audit, [f, given @ ..]) => {
+            let lengths: Vec<u64> = given.iter().map(|list| list.len() as u64).collect();
+            Request::audit(f, &given.concat(), &lengths, audit_room(f.len()).map(|words| vec![7; words]))
+        }
         _ => panic!("lists that {} does not take", call.name()),
     }
 }
@@ -87,7 +91,8 @@ fn crossed(p: &[u64], q: &[u64], r: &[u64], s: &[u64]) -> [Vec<u64>; 4] {
 pub fn fixed(call: Call, random: &mut Random) -> Vec<Deep> {
     match call {
         Call::Multiply => fixed_multiply(random),
-        Call::Split => fixed_split(random),
+        Call::Split => fixed_split(random).into_iter().map(|(name, f)| named(call, &name, &[&f])).collect(),
+        Call::Audit => fixed_audit(random),
         Call::SameProducts => fixed_same_products(random),
         Call::Read | Call::Write => fixed_block(call, random),
         Call::ReadText | Call::WriteText => fixed_text(call, random),
@@ -121,15 +126,15 @@ fn fixed_multiply(random: &mut Random) -> Vec<Deep> {
     found
 }
 
-fn fixed_split(random: &mut Random) -> Vec<Deep> {
+fn fixed_split(random: &mut Random) -> Vec<(String, Vec<u64>)> {
     let mut found = Vec::new();
     let mut list = |name: &str, f: &[u64]| {
-        found.push(named(Call::Split, name, &[f]));
+        found.push((name.to_string(), f.to_vec()));
         for at in [0, f.len() / 2, f.len() - 1] {
             let mut less = f.to_vec();
             less.remove(at);
             if !less.is_empty() {
-                found.push(named(Call::Split, &format!("{name}, without term {at}"), &[&less]));
+                found.push((format!("{name}, without term {at}"), less));
             }
         }
     };
@@ -153,6 +158,26 @@ fn fixed_split(random: &mut Random) -> Vec<Deep> {
         list("32 x 32 random, any variables", &product(&random.exact_list(on, 32), &random.exact_list(!on, 32)));
         list("random", &random.exact_list(u64::MAX, 1024));
     }
+    found
+}
+
+/// What split goes deep on, with the whole of it as the one given part; and as many given parts as there can be, right ones and
+/// the longest.
+fn fixed_audit(random: &mut Random) -> Vec<Deep> {
+    let cube: Vec<u64> = (0..1024).collect();
+    let singles: Vec<Vec<u64>> = (0..64).map(|i| vec![1 << i]).collect();
+    let edges: Vec<Vec<u64>> = (0..10).map(|i| vec![0, 1 << i]).chain(singles[10..].to_vec()).collect();
+    let constants = product(&[u64::MAX << 10], &cube);
+    let mut found: Vec<Deep> =
+        fixed_split(random).into_iter().map(|(name, f)| named(Call::Audit, &name, &[&f, &f])).collect();
+    let mut board = |name: &str, f: &[u64], given: &[Vec<u64>]| {
+        let lists: Vec<&[u64]> = [f].into_iter().chain(given.iter().map(|list| &list[..])).collect();
+        found.push(named(Call::Audit, name, &lists));
+    };
+    board("64 constant variables, as 64 parts", &[u64::MAX], &singles);
+    board("54 constant variables and a cube, as 64 parts", &constants, &edges);
+    board("{0, .., 1023}, held against 64 times itself", &cube, &vec![cube.clone(); 64]);
+    board("1, held against nothing", &[0], &[]);
     found
 }
 
@@ -289,6 +314,7 @@ pub fn structured(call: Call, genes: &Genes) -> Deep {
     let mut lists = match call {
         Call::Multiply => vec![p, q],
         Call::SameProducts => crossed(&p, &q, &r, &s).to_vec(),
+        Call::Audit => vec![product(&p, &q), p, q],
         _ => vec![product(&p, &q)],
     };
     // multiply's lists must keep their variables apart

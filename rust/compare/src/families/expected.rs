@@ -17,7 +17,8 @@ pub fn held(run: &mut Run, request: Request) {
     }
 }
 
-fn refusal(request: &Request) -> Option<Refusal> {
+/// None for a call that no check refuses, and for read and read text, whose checks stand elsewhere.
+pub fn refusal(request: &Request) -> Option<Refusal> {
     use Slice::{Bytes, Words};
     match (request.call, &request.slices[..]) {
         (Call::Split, [Words(t), Words(p), Words(l), Words(w)]) => split(t, [p.len(), l.len(), w.len()]),
@@ -29,15 +30,25 @@ fn refusal(request: &Request) -> Option<Refusal> {
         (Call::WriteText, [Words(t), Bytes(out)]) => unfit(&[t])
             .or_else(|| (text_bytes(t) > 65536).then_some([5, 1, 0]))
             .or_else(|| (out.len() < text_bytes(t)).then_some([6, 1, 0])),
+        (Call::Audit, [Words(t), Words(g), Words(n), Words(p), Words(l), Words(w)]) => {
+            audit(t, g, n, [p.len(), l.len(), w.len()])
+        }
         _ => None,
     }
 }
 
 /// 2 for each operand, then 3 for each.
 fn unfit(lists: &[&[u64]]) -> Option<Refusal> {
+    long(lists).or_else(|| unordered(lists))
+}
+
+fn long(lists: &[&[u64]]) -> Option<Refusal> {
     let many = lists.iter().zip(1..).find(|(list, _)| list.len() > 1024);
-    let unordered = || lists.iter().zip(1..).find_map(|(list, operand)| Some([3, operand, first_unordered(list)?]));
-    many.map(|(_, operand)| [2, operand, 0]).or_else(unordered)
+    many.map(|(_, operand)| [2, operand, 0])
+}
+
+fn unordered(lists: &[&[u64]]) -> Option<Refusal> {
+    lists.iter().zip(1..).find_map(|(list, operand)| Some([3, operand, first_unordered(list)?]))
 }
 
 fn first_unordered(list: &[u64]) -> Option<u64> {
@@ -66,4 +77,27 @@ fn multiply(a: &[u64], b: &[u64], room: usize) -> Option<Refusal> {
         .or_else(|| shared().then_some([4, 0, 0]))
         .or_else(|| (need > 1024).then_some([5, 0, 0]))
         .or_else(|| (room < need).then_some([6, 0, 0]))
+}
+
+/// One given list after another is taken off what is lent: there is too little left for one, or something is left at the end.
+fn audit(terms: &[u64], given: &[u64], lengths: &[u64], room: [usize; 3]) -> Option<Refusal> {
+    if lengths.len() > 64 {
+        return Some([2, 0, 0]);
+    }
+    let (mut lists, mut left) = (vec![terms], given);
+    for &length in lengths {
+        if length > left.len() as u64 {
+            return Some([10, 0, 0]);
+        }
+        let (list, behind) = left.split_at(length as usize);
+        lists.push(list);
+        left = behind;
+    }
+    if !left.is_empty() {
+        return Some([12, 0, 0]);
+    }
+    long(&lists)
+        .or_else(|| terms.is_empty().then_some([1, 1, 0]))
+        .or_else(|| unordered(&lists))
+        .or_else(|| split(terms, room))
 }

@@ -5,7 +5,7 @@ use crate::random::Random;
 use crate::run::{Oracle, Run};
 
 /// Factors with no common variable, at most so many terms in the product.
-fn factors(random: &mut Random, most_terms: usize) -> Vec<Vec<u64>> {
+pub(super) fn factors(random: &mut Random, most_terms: usize) -> Vec<Vec<u64>> {
     let wide = [4, 8, 12, 20, 64][random.below(5)];
     let mut free = random.subset(u64::MAX, wide);
     let mut left = most_terms;
@@ -132,8 +132,8 @@ pub fn exhaustive(run: &mut Run) {
     }
 }
 
-/// Long lists that are known to be irreducible, and long ones with known parts.
-pub fn long(run: &mut Run) {
+/// Long lists that are known to be irreducible, and long ones with known parts; of those by chance a share.
+pub fn long(run: &mut Run, share: usize) {
     if !run.has(Call::Split) {
         return;
     }
@@ -151,14 +151,14 @@ pub fn long(run: &mut Run) {
     let triples: Vec<Vec<u64>> = (0..6).map(|i| vec![0, 1 << i, 1 << (i + 10)]).collect();
     known(run, triples.iter().fold(vec![0], |w, p| product(&w, p)), triples, true);
     many_parts(run);
-    for round in 0..400 {
+    for round in 0..400 / share {
         let (left, right) = long_factors(&mut run.random);
         let mut parts = run.asked("the parts", &left, independent::parts_of);
         parts.extend(run.asked("the parts", &right, independent::parts_of));
         known(run, product(&left, &right), in_order(parts), round % 100 == 0);
     }
     run.family("near-products of 1,000 terms and more");
-    for _ in 0..16 {
+    for _ in 0..16 / share {
         let (left, right) = long_factors(&mut run.random);
         let mut list = product(&left, &right);
         let at = run.random.below(list.len());
@@ -175,7 +175,7 @@ pub fn long(run: &mut Run) {
 }
 
 /// Two random lists on the two halves of the variables, with about 1,024 terms in the product.
-fn long_factors(random: &mut Random) -> (Vec<u64>, Vec<u64>) {
+pub(super) fn long_factors(random: &mut Random) -> (Vec<u64>, Vec<u64>) {
     let some = random.subset(u64::MAX, 32);
     let (a, b) = [(10, 102), (32, 32), (4, 256), (25, 40)][random.below(4)];
     (random.exact_list(some, a), random.exact_list(!some, b))

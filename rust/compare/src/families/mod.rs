@@ -1,5 +1,8 @@
 //! What is compared, one module for each kind of input.
+pub mod audit_refusals;
+pub mod audits;
 pub mod blocks;
+pub mod damages;
 pub mod deep;
 pub mod examples;
 mod expected;
@@ -25,6 +28,23 @@ pub fn split_request(random: &mut Random, terms: &[u64], more: usize) -> Request
 
 pub fn multiply_request(random: &mut Random, a: &[u64], b: &[u64], more: usize) -> Request {
     Request::multiply(a, b, random.words((a.len() * b.len()).min(1024) + more))
+}
+
+/// An audit of these lists with exactly the room that it needs and so much more.
+pub fn audit_request(random: &mut Random, approved: &[u64], given: &[Vec<u64>], more: usize) -> Request {
+    let (terms, lengths) = joined(given);
+    let lent = audit_room(approved.len()).map(|words| random.words(words + more));
+    Request::audit(approved, &terms, &lengths, lent)
+}
+
+/// The words that an audit of so many terms needs.
+pub fn audit_room(t: usize) -> [usize; 3] {
+    [t + 64, 64, 4 * t]
+}
+
+/// Lists one behind the other, and their lengths.
+pub fn joined(lists: &[Vec<u64>]) -> (Vec<u64>, Vec<u64>) {
+    (lists.concat(), lists.iter().map(|list| list.len() as u64).collect())
 }
 
 /// Parts in the order of their lowest variables.

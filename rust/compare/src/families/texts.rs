@@ -19,13 +19,14 @@ pub fn refusals(run: &mut Run) {
     faults(run);
 }
 
-pub fn all(run: &mut Run) {
+/// All of them, or a share of the texts that are damaged.
+pub fn all(run: &mut Run, share: usize) {
     refusals(run);
     run.family("texts: every name of a variable");
     names(run);
     run.family("texts: all short ones");
     short(run);
-    damaged(run, 200, true);
+    damaged(run, 200 / share, true);
     run.family("texts: 1,023 to 1,026 terms");
     terms_at_the_limit(run);
     run.family("texts: 65,535 to 65,537 bytes");

@@ -6,6 +6,8 @@
 //! Prints a row for each fault. Ends with 0 if each was seen; with 1 if one was not, if the text that it replaces does not
 //! occur exactly once, or if the copy without a fault shows a difference; with 2 on wrong usage.
 mod answer;
+mod audit;
+mod audited;
 mod blocks;
 mod parts;
 mod printed;
@@ -37,7 +39,7 @@ pub const fn fault(
     Fault { name, calls, file, old, new }
 }
 
-const TABLES: [&[Fault]; 9] = [
+const TABLES: [&[Fault]; 14] = [
     answer::FAULTS,
     parts::FAULTS,
     products::MULTIPLY,
@@ -47,6 +49,11 @@ const TABLES: [&[Fault]; 9] = [
     printed::FAULTS,
     texts::READ,
     texts::WRITE,
+    audit::GIVEN,
+    audit::CHECKS,
+    audited::SAYS,
+    audited::PARTS,
+    audited::SHARED,
 ];
 
 /// A comparison that takes longer than this has not seen the fault.
