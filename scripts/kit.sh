@@ -17,8 +17,8 @@
 #   kit_run         an array: what stands before any program for x86-64 to run it here, with the kit's loader and C library,
 #                   as rt runs it: "${kit_run[@]}" target/bin/split
 #
-# and two functions: kit_nm WORDS.., LLVM's nm; kit_trouble WORDS.., which says the words after NAME and ends the script with
-# status 2.
+# and three functions: kit_nm WORDS.., LLVM's nm; kit_trouble WORDS.., which says the words after NAME and ends the script with
+# status 2; kit_command VARIABLE WORD WHOSE, which finds another command as rt is found.
 
 kit_trouble() {
     printf '%s: %s\n' "$kit_who" "$*" >&2 || :
@@ -28,12 +28,14 @@ kit_trouble() {
 # The kit's clang is all of LLVM's tools in one file, and its name at the call says which.
 kit_nm() { (exec -a llvm-nm "$kit_clang" "$@"); }
 
-# The word on the path, if it is a file there under an absolute name: neither a function nor something in the caller's folder.
-kit_find_rt() {
-    kit_rt=$(type -P rt) || kit_trouble "rt is not on the path; it is the command of the Rattle kit"
-    case $kit_rt in
-    /*) ;;
-    *) kit_trouble "rt is on the path by an entry that is not absolute ($kit_rt); it is not run" ;;
+# Sets the variable to the word on the path, if it is a file there under an absolute name: neither a function nor something in
+# the caller's folder.
+kit_command() { # VARIABLE WORD WHOSE
+    local found
+    found=$(type -P "$2") || kit_trouble "$2 is not on the path; it is the command of $3"
+    case $found in
+    /*) printf -v "$1" %s "$found" ;;
+    *) kit_trouble "$2 is on the path by an entry that is not absolute ($found); it is not run" ;;
     esac
 }
 
@@ -59,7 +61,7 @@ kit_must_have() { # FILE..
 kit_find() { # NAME
     local own variable loader
     kit_who=$1
-    kit_find_rt
+    kit_command kit_rt rt 'the Rattle kit'
     kit_find_home
     kit_machine=$(uname -m)
     own=$kit_home/on/$kit_machine
