@@ -1,7 +1,7 @@
 /* The benchmark: each call on each input family, by the proved library where it is linked in (-DHAVE_READ, ..), by plain
  * C of the same method, by the published methods, and by FLINT where it is installed. Usage: bench CALL.., where a CALL is
- * split, multiply, same_products, read, write, read_text or write_text, or split_second or same_products_second, and gives
- * its table; or bench growth SVG. bench/run builds and calls it. */
+ * split, multiply, same_products, read, write, read_text, write_text or audit, or split_second or same_products_second, and
+ * gives its table, audit two; or bench growth SVG. bench/run builds and calls it. */
 #include "families.h"
 #include "measure.h"
 #include "peers.h"
@@ -29,6 +29,10 @@ typedef struct {
         j->result = (size_t)(body);                                                                                   \
     }
 #define SPLIT_ROOM j->words, j->a.t + 64, j->lengths, 64, j->work, 4 * j->a.t
+#define AUDIT LIST(j->a), j->given, j->given_words, j->given_lengths, j->given_parts, SPLIT_ROOM
+
+/* Yes, no, or refused. */
+static size_t verdict(apfelruder_answer answer) { return answer.code ? 2 : answer.count; }
 
 METHOD(split_plain, plain_split(LIST(j->a), SPLIT_ROOM).count)
 METHOD(split_closure, closure_split(LIST(j->a), SPLIT_ROOM).count)
@@ -47,6 +51,8 @@ METHOD(read_text_plain, plain_read_text(j->text, j->text_bytes, j->words, LONGES
 METHOD(read_text_library, library_read_text(j->text, j->words))
 METHOD(write_text_plain, plain_write_text(LIST(j->a), j->written, sizeof j->written).count)
 METHOD(write_text_library, library_write_text(&j->a, j->written, sizeof j->written))
+METHOD(audit_plain, verdict(plain_audit(AUDIT)))
+METHOD(audit_questions, verdict(questions_audit(AUDIT)))
 #ifdef HAVE_SPLIT
 METHOD(split_ours, apfelruder_split(LIST(j->a), SPLIT_ROOM).count)
 #endif
@@ -71,6 +77,11 @@ METHOD(read_text_ours, apfelruder_read_text(j->text, j->text_bytes, j->words, LO
 #ifdef HAVE_WRITE_TEXT
 METHOD(write_text_ours, apfelruder_write_text(LIST(j->a), j->written, sizeof j->written).count)
 #endif
+#ifdef HAVE_AUDIT
+METHOD(audit_ours, verdict(apfelruder_audit(AUDIT)))
+/* Split gives no verdict: if it finds as many parts as are given, the right one stands for its own. */
+METHOD(audit_split, apfelruder_split(LIST(j->a), SPLIT_ROOM).count == j->given_parts ? j->right : 2)
+#endif
 #ifdef BEFORE
 #define EARLIER(call) extern __typeof__(apfelruder_##call) before_##call
 EARLIER(read);
@@ -90,6 +101,10 @@ METHOD(read_text_before, before_read_text(j->text, j->text_bytes, j->words, LONG
 #ifdef BEFORE_WRITE_TEXT
 EARLIER(write_text);
 METHOD(write_text_before, before_write_text(LIST(j->a), j->written, sizeof j->written).count)
+#endif
+#ifdef BEFORE_AUDIT
+EARLIER(audit);
+METHOD(audit_before, verdict(before_audit(AUDIT)))
 #endif
 #endif
 #ifdef HAVE_FLINT
@@ -118,6 +133,11 @@ ALONE(read_text)
 BESIDE(write_text)
 #else
 ALONE(write_text)
+#endif
+#ifdef BEFORE_AUDIT
+BESIDE(audit)
+#else
+ALONE(audit)
 #endif
 #else
 static const method split_methods[] = {
@@ -184,6 +204,14 @@ static const method write_text_methods[] = {
     {"plain C", write_text_plain, 0, NULL},
     {"snprintf, no checks", write_text_library, 0, NULL},
 };
+static const method audit_methods[] = {
+#ifdef HAVE_AUDIT
+    {"ours", audit_ours, 0, NULL},
+    {"ours, split alone", audit_split, 0, NULL},
+#endif
+    {"plain C", audit_plain, 0, NULL},
+    {"plain C, question by question", audit_questions, 0, NULL},
+};
 #endif
 #define METHODS(of) of, (int)(sizeof of / sizeof *of)
 
@@ -237,6 +265,25 @@ static void check_parts(const char *input) {
     }
 }
 
+/* The answer must be that of how the parts were given, and all that leave the parts of the list must leave the right ones. */
+static void check_audits(const char *input, const method *methods, int columns) {
+    static job right;
+    job *j = &right;
+    j->a = current.a;
+    memset(j->words, 0, sizeof j->words), memset(j->lengths, 0, sizeof j->lengths);
+    plain_split(LIST(j->a), SPLIT_ROOM);
+    for (int m = 0; m < columns; m++) {
+        memset(current.words, 0, sizeof current.words), memset(current.lengths, 0, sizeof current.lengths);
+        methods[m].go(&current);
+        if (current.result == current.right &&
+            (methods[m].go == audit_questions || (!memcmp(current.words, right.words, sizeof right.words) &&
+                                                  !memcmp(current.lengths, right.lengths, sizeof right.lengths))))
+            continue;
+        fprintf(stderr, "bench: %s is wrong on %s\n", methods[m].name, input);
+        exit(1);
+    }
+}
+
 static const int SECONDS = 3;
 
 /* The time in a process of its own, which ends after so many seconds on the processor: then the result is -1. */
@@ -278,7 +325,8 @@ static void measure_family(const family *f, const method *methods, int columns, 
         random_seed((uint64_t)i + 1);
         f->make(&current, f->size);
         check_lists(f->name);
-        if (methods == split_methods) check_parts(f->name);
+        if (methods == split_methods || methods == audit_methods) check_parts(f->name);
+        if (methods == audit_methods) give_parts(&current), check_audits(f->name, methods, columns);
         if (methods == read_text_methods || methods == write_text_methods)
             check_texts(f->name, methods, columns, methods == read_text_methods);
         size_t right = 0;
@@ -369,6 +417,11 @@ static int run_growth(const char *picture) {
 
 #define FAMILIES(of) of, of##_count
 
+static void run_audits(const char *title, size_t right) {
+    current.right = right;
+    run_families(title, FAMILIES(split_families), METHODS(audit_methods), 0);
+}
+
 static int run_call(const char *call) {
     if (!strcmp(call, "read")) run_families("read", FAMILIES(block_families), METHODS(read_methods), 0);
     else if (!strcmp(call, "write")) run_families("write", FAMILIES(block_families), METHODS(write_methods), 0);
@@ -377,6 +430,7 @@ static int run_call(const char *call) {
     else if (!strcmp(call, "multiply")) run_families("multiply", FAMILIES(multiply_families), METHODS(multiply_methods), 0);
     else if (!strcmp(call, "same_products")) run_families("same products", FAMILIES(same_families), METHODS(same_methods), 0);
     else if (!strcmp(call, "split")) run_families("split", FAMILIES(split_families), METHODS(split_methods), 0);
+    else if (!strcmp(call, "audit")) run_audits("audit, the right parts given", 1), run_audits("audit, a term of one part lost", 0);
     else if (!strcmp(call, "same_products_second"))
         run_families("same products, second set", FAMILIES(same_second_families), METHODS(same_methods), 1);
     else if (!strcmp(call, "split_second"))

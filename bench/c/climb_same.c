@@ -70,14 +70,6 @@ static uint64_t spread(uint64_t number, const int *on, int n) {
 
 static uint64_t bit(int variable) { return (uint64_t)1 << variable; }
 
-static void ascending(poly *f) {
-    size_t kept = 0;
-    sort_terms(f->terms, f->t);
-    for (size_t i = 0; i < f->t; i++)
-        if (i == 0 || f->terms[i] != f->terms[i - 1]) f->terms[kept++] = f->terms[i];
-    f->t = kept;
-}
-
 /* One piece of a factor on some of the free variables, which are used up; 0 if it cannot be made. */
 static int make_piece(poly *f, const int *g, uint64_t *free) {
     int on[64], most_terms = g[TERMS];

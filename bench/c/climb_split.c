@@ -98,14 +98,6 @@ typedef struct {
     int changes;
 } candidate;
 
-static void ascending(poly *f) {
-    size_t kept = 0;
-    sort_terms(f->terms, f->t);
-    for (size_t i = 0; i < f->t; i++)
-        if (i == 0 || f->terms[i] != f->terms[i - 1]) f->terms[kept++] = f->terms[i];
-    f->t = kept;
-}
-
 /* Every exclusive or of some of the k terms. */
 static void span(poly *f, const uint64_t *terms, size_t k) {
     f->t = 0;

@@ -114,6 +114,20 @@ const family split_families[] = {
 };
 const int split_families_count = (int)(sizeof split_families / sizeof *split_families);
 
+/* ---- audit: the families of split */
+
+void give_parts(job *j) {
+    size_t k, at = 0;
+    j->given_parts = plain_split(LIST(j->a), j->given, j->a.t + 64, j->given_lengths, 64, j->work, 4 * j->a.t).count;
+    for (j->given_words = 0, k = 0; k < j->given_parts; k++) j->given_words += j->given_lengths[k];
+    if (j->right) return;
+    do k = random_word() % j->given_parts;
+    while (j->given_lengths[k] == 1); /* a part of one term would be lost as a whole */
+    for (size_t i = 0; i < k; i++) at += j->given_lengths[i];
+    at += random_word() % j->given_lengths[k]--;
+    memmove(&j->given[at], &j->given[at + 1], (--j->given_words - at) * sizeof *j->given);
+}
+
 /* ---- multiply */
 
 static void interleaved(job *j, int size) {

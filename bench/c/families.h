@@ -15,6 +15,8 @@ typedef struct {
     size_t result;
     uint8_t text[APFELRUDER_MAX_TEXT_BYTES], written[APFELRUDER_MAX_TEXT_BYTES + 1];
     size_t text_bytes;
+    uint64_t given[LONGEST + 64], given_lengths[64];
+    size_t given_words, given_parts, right; /* right is the answer that an audit must give */
 } job;
 
 /* A family: an input for each seed. */
@@ -47,6 +49,9 @@ extern const family text_families[];
 extern const int text_families_count;
 extern const growing growing_inputs[];
 extern const int growing_inputs_count;
+
+/* The parts of the list in j->a, as an audit is given them; one term of one part is lost unless j->right is 1. */
+void give_parts(job *j);
 
 #define LIST(p) (p).terms, (p).t
 

@@ -1,4 +1,4 @@
-/* Plain C baselines of the seven calls: the same methods as the proved library, written without proofs, for
+/* Plain C baselines of all calls: the same methods as the proved library, written without proofs, for
  * the benchmark alone. Same signatures and same answers as include/apfelruder.h, under the prefix plain_. */
 #ifndef PLAIN_H
 #define PLAIN_H
@@ -15,6 +15,9 @@ apfelruder_answer plain_read(const uint8_t *bytes, size_t bytes_len, uint64_t *o
 apfelruder_answer plain_write(const uint64_t *terms, size_t t, uint8_t *out, size_t out_len);
 apfelruder_answer plain_read_text(const uint8_t *text, size_t text_len, uint64_t *out, size_t out_len);
 apfelruder_answer plain_write_text(const uint64_t *terms, size_t t, uint8_t *out, size_t out_len);
+apfelruder_answer plain_audit(const uint64_t *terms, size_t t, const uint64_t *given, size_t given_len,
+                              const uint64_t *lengths, size_t parts, uint64_t *part_terms, size_t part_terms_len,
+                              uint64_t *part_lengths, size_t part_lengths_len, uint64_t *work, size_t work_len);
 
 /* The text of terms in any order; there must be room for it. Its bytes come back. */
 size_t plain_spell(const uint64_t *terms, size_t t, uint8_t *out);
@@ -22,6 +25,12 @@ size_t plain_spell(const uint64_t *terms, size_t t, uint8_t *out);
 /* Split as it was before: closure under mixing, asked for by binary search (bench/c/plain_closure.c). */
 apfelruder_answer closure_split(const uint64_t *terms, size_t t, uint64_t *part_terms, size_t part_terms_len,
                                 uint64_t *part_lengths, size_t part_lengths_len, uint64_t *work, size_t work_len);
+
+/* The auditor's questions asked of the given parts, up to the first no (bench/c/plain_audit.c): multiplied one by one, are they the
+ * list; are they in order; is each, split, one part. It refuses nothing and leaves no parts. */
+apfelruder_answer questions_audit(const uint64_t *terms, size_t t, const uint64_t *given, size_t given_len,
+                                  const uint64_t *lengths, size_t parts, uint64_t *part_terms, size_t part_terms_len,
+                                  uint64_t *part_lengths, size_t part_lengths_len, uint64_t *work, size_t work_len);
 
 /* The number of questions that the last plain_same_products asked, and of membership searches and rounds that the
  * last closure_split made; counted only if compiled with -DPLAIN_COUNT. */
