@@ -4,6 +4,7 @@ use Prim.Native.Nat.{ℕ, _<_}
 use mathlib.Core.Path.{_≡_, refl, sym, ap, ap₂, _∙_}
 use mathlib.Core.Bool.{Bool, true, false}
 use mathlib.Core.List.{List, [], _∷_}
+use mathlib.Core.Logic.{_⊎_, inl, inr}
 use native.Mathlib.Omega.{arith}
 use borrow.Author.Tests.{ltb-true, ltb-false}
 use lib.Dec.{ltb}
@@ -17,6 +18,10 @@ use Rattle.answer.specs.Checked.{Passed, Checked, both, coded}
 -- accepted, with a count and buffers of which the claim holds
 abbrev pub Accepts : {B : Type 0} → (ℕ → B → Type 0) → Answer → B → Type 0
 Accepts A answer new = (count : ℕ) × (answer ≡ accepted count) × A count new
+
+-- refused, with a code above 0: nothing is counted, and every lent buffer is as it was
+abbrev pub Refuses : {B : Type 0} → B → Answer → B → Type 0
+Refuses old answer new = (0 < answer .code) × (answer .count ≡ 0) × (new ≡ old)
 
 -- a claim that leaves one count and one content of the buffers
 abbrev pub Determined : {B : Type 0} → (ℕ → B → Type 0) → Type 0
@@ -34,6 +39,11 @@ alike false f g y y′ = g y y′
 pub each : (t : Bool) {X Y X′ Y′ : Type 0} → (X → X′) → (Y → Y′) → if t X Y → if t X′ Y′
 each true f g x = f x
 each false f g y = g y
+
+-- where the first check of several has a code above 0 and so have the others, each has
+coded-both : (s t : Bool) → both s t ≡ true → (s ≡ true) × (t ≡ true)
+coded-both true t e = (refl, e)
+coded-both false t e = absurd (let z : _≡_ {A = ℕ} 0 1 = cc in let x : ⊥ = omega arith in x)
 
 -- the code of an acceptance is 0, that of a refusal is the check's
 code-0 : {answer : Answer} {count : ℕ} → answer ≡ accepted count → answer .code ≡ 0
@@ -71,10 +81,15 @@ module _ {B : Type 0} (old : B) (A : ℕ → B → Type 0) where
       let h = coded-both (ltb 0 (c .code)) (coded cs) k in
       either (c .fails) (λ _ r. absurd (let x : ⊥ = omega (arith, ltb-true 0 (c .code) (h .0), code-of c (r .0)) in x))
       (λ f r. (f, accepted-passed cs answer new (h .1) r z)) e
-    where
-      coded-both : (s t : Bool) → both s t ≡ true → (s ≡ true) × (t ≡ true)
-      coded-both true t e = (refl, e)
-      coded-both false t e = absurd (let z : _≡_ {A = ℕ} 0 1 = cc in let x : ⊥ = omega arith in x)
+
+  -- a call is accepted or refused
+  pub accepted-or-refused : (cs : List Check) (answer : Answer) (new : B) → coded cs ≡ true → Ends cs old A answer new → Accepts A answer new ⊎ Refuses old answer new
+  unfolding Ends coded
+  accepted-or-refused [] answer new k e = inl e
+  accepted-or-refused (c ∷ cs) answer new k e =
+      let h = coded-both (ltb 0 (c .code)) (coded cs) k in
+      either (c .fails) (λ _ r. inr (omega (arith, ltb-true 0 (c .code) (h .0), code-of c (r .0)), ap (λ (a : Answer). a .count) (r .0), r .1))
+      (λ _ r. accepted-or-refused cs answer new (h .1) r) e
 
   -- the ending of a call whose checks pass,
   pub ends-if-passed : (cs : List Check) (count : ℕ) (new : B) → Passed cs → A count new → Ends cs old A (accepted count) new

@@ -5,6 +5,7 @@ use answer::Answer;
 use terms::TermList;
 ghost use Rattle.audit.specs.Audit.{AuditEnds};
 ghost use Rattle.block.specs.Calls.{ReadEnds, WriteEnds};
+ghost use Rattle.deploy.specs.Deploy.{DeployEnds};
 ghost use Rattle.parts.specs.Split.{SplitEnds};
 ghost use Rattle.product.specs.Multiply.{MultiplyEnds};
 ghost use Rattle.same.specs.Same.{SameEnds};
@@ -120,4 +121,26 @@ pub extern "C" fn apfelruder_audit(
         part_lengths,
         work,
     ))
+}
+
+// The parts of each of the term lists of a deployment, which are lent one behind the other with their lengths; four words of answer for each.
+#[no_mangle]
+pub extern "C" fn apfelruder_deploy(
+    words: &[u64],
+    lengths: &[u64],
+    answers: &mut [u64],
+    part_terms: &mut [u64],
+    part_lengths: &mut [u64],
+    work: &mut [u64],
+) -> Answer
+    ensures { λ r. do
+      boards ← ⟦deploy::MAX_BOARDS⟧ .entry
+      most ← ⟦TermList::MAX_TERMS⟧ .entry
+      vars ← ⟦TermList::MAX_VARS⟧ .entry
+      ⌜ DeployEnds boards most vars (now (words .entry)) (now (lengths .entry))
+          (record { answers = now (answers .entry); outputs = record { terms = now («part_terms» .entry); lengths = now («part_lengths» .entry); work = now (work .entry) } })
+          r
+          (record { answers = now (answers .exit); outputs = record { terms = now («part_terms» .exit); lengths = now («part_lengths» .exit); work = now (work .exit) } }) ⌝ }
+{
+    answer::numbers(deploy::deploy(words, lengths, answers, part_terms, part_lengths, work))
 }

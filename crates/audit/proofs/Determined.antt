@@ -10,7 +10,8 @@ use Rattle.answer.proofs.Ends.{Determined, ends-coincide}
 use Rattle.polys.specs.Parts.{IsParts}
 use Rattle.parts.specs.Split.{Buffers}
 use Rattle.parts.proofs.Determined.{splits-once}
-use Rattle.audit.specs.Audit.{cut, auditChecks, Audited, AuditEnds}
+use Rattle.lists.specs.Lists.{cut}
+use Rattle.audit.specs.Audit.{auditChecks, Audited, AuditEnds}
 
 -- yes and no exclude one another
 verdict-once : (claim : Type 0) (m n : ℕ) → ((m ≡ 1) × claim) ⊎ ((m ≡ 0) × ¬ claim) → ((n ≡ 1) × claim) ⊎ ((n ≡ 0) × ¬ claim) → m ≡ n

@@ -15,9 +15,10 @@ use Rattle.polys.specs.Parts.{IsParts}
 use Rattle.unique.proofs.Same.{parts-are-unique}
 use Rattle.taking.specs.Joined.{joined, lengths}
 use Rattle.parts.specs.Split.{Buffers, splitChecks, Splits, SplitEnds}
-use Rattle.audit.specs.Audit.{cut, added, auditChecks, Audited}
+use Rattle.lists.specs.Lists.{cut, added}
+use Rattle.audit.specs.Audit.{auditChecks, Audited}
 use Rattle.audit.specs.Agree.{Said, Agree}
-use Rattle.audit.proofs.Cutting.{length-of-lengths, cut-joined, length-joined, lengths-cut, joined-cut, counted-lengths}
+use Rattle.lists.proofs.Cutting.{length-of-lengths, cut-joined, length-joined, lengths-cut, joined-cut, counted-lengths}
 use Rattle.audit.proofs.Passing.{words-whole}
 
 module _ (f words ls : List ℕ) (old new : Buffers) (parts : ℕ) (whole : added ls ≡ length words) (splits : Splits f old parts new) where

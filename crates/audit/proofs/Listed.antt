@@ -1,38 +1,21 @@
 -- The checks of audit (specs/Audit.antt), one given part after another. Assumes nothing.
 use Prim.Native.Nat.{ℕ, suc, _+_, _≤_, _<_}
 use native.Mathlib.Numerals.{add-one}
-use mathlib.Core.Path.{_≡_, refl, sym, ap, ap₂, _∙_, subst}
+use mathlib.Core.Path.{_≡_, refl, sym, ap, _∙_, subst}
 use mathlib.Core.List.{List, _∷_}
 use native.Mathlib.Omega.{arith}
 use borrow.Author.Tests.{lt-ltb, le-ltb}
 use lib.Dec.{ltb}
 use lib.ListN.{length, getD, take, drop}
-use lib.Seq.{drop-cons, drop-drop, drop-length}
+use lib.Seq.{drop-cons, drop-length}
 use Rattle.answer.specs.declared.Answer.{Answer}
 use Rattle.answer.specs.Table.{accepted, refused}
 use Rattle.answer.specs.Checked.{Checked}
 use Rattle.answer.proofs.Checking.{checking, fails-here, passes-here}
 use Rattle.terms.specs.Order.{unordered}
-use Rattle.audit.specs.Audit.{cut, added, givenChecks, longChecks, orderChecks}
-
--- ---- the numbers of lists and of words
-
-module _ (most words : ℕ) (ls : List ℕ) where
-  pub too-many : most < length ls → Checked (givenChecks most words ls) (refused 2 0 0)
-  too-many h = search checking
-
-  pub too-few-words : length ls ≤ most → words < added ls → Checked (givenChecks most words ls) (refused 10 0 0)
-  too-few-words h s = search checking
-
-  pub words-behind : length ls ≤ most → added ls < words → Checked (givenChecks most words ls) (refused 12 0 0)
-  words-behind h s = let enough : added ls ≤ words = omega (arith, s) in search checking
-
-  pub words-match : length ls ≤ most → added ls ≡ words → Checked (givenChecks most words ls) (accepted 0)
-  words-match h e = let enough : added ls ≤ words = omega (arith, e) in let all : words ≤ added ls = omega (arith, e) in search checking
-
--- the lengths from a place on: the one there, and those behind it
-pub added-from : (ls : List ℕ) (i : ℕ) → i < length ls → added (drop i ls) ≡ getD ls i 0 + added (drop (i + 1) ls)
-added-from ls i h = ap added (drop-cons ls i 0 h) ∙ ap (λ (n : ℕ). getD ls i 0 + added (drop n ls)) (sym (add-one i))
+use Rattle.lists.specs.Lists.{cut}
+use Rattle.lists.proofs.Cutting.{cut-from, none-behind}
+use Rattle.audit.specs.Audit.{longChecks, orderChecks}
 
 -- ---- each list, from an operand on
 
@@ -96,11 +79,7 @@ module _ (f words ls : List ℕ) where
   -- the part at a place, its words lent,
   module _ (i at : ℕ) (part : List ℕ) (here : i < length ls) (lent : part ≡ take (getD ls i 0) (drop at words)) where
     there : cut (drop i ls) (drop at words) ≡ part ∷ cut (drop (i + 1) ls) (drop (at + getD ls i 0) words)
-    unfolding cut
-    there =
-        ap (λ (l : List ℕ). cut l (drop at words)) (drop-cons ls i 0 here)
-        ∙ ap₂ (λ (p : List ℕ) (ps : List (List ℕ)). p ∷ ps) (sym lent)
-        (ap₂ (λ (n : ℕ) (w : List ℕ). cut (drop n ls) w) (sym (add-one i)) (drop-drop (getD ls i 0) at words))
+    there = cut-from ls words i at here ∙ ap (λ (p : List ℕ). p ∷ cut (drop (i + 1) ls) (drop (at + getD ls i 0) words)) (sym lent)
 
     -- is out of order,
     pub given-out : (found : ℕ) → found ≡ unordered part → found < length part → OrderFrom f words ls i at
@@ -126,7 +105,6 @@ module _ (f words ls : List ℕ) where
 
   -- none is
   pub none-out : (i at : ℕ) → i ≡ length ls → OrderFrom f words ls i at → Checked (orderChecks 1 (f ∷ cut ls words)) (accepted 0)
-  unfolding orderChecks cut
+  unfolding orderChecks
   none-out i at e from =
-      from (accepted 0)
-      (subst (λ (l : List ℕ). Checked (orderChecks (i + 2) (cut l (drop at words))) (accepted 0)) (sym (ap (λ (n : ℕ). drop n ls) e ∙ drop-length ls)) (search checking))
+      from (accepted 0) (subst (λ (ps : List (List ℕ)). Checked (orderChecks (i + 2) ps) (accepted 0)) (sym (none-behind ls (drop at words) i e)) (search checking))

@@ -3,7 +3,6 @@ use Prim.Native.Nat.{ℕ, suc, _≤_}
 use mathlib.Core.Path.{_≡_, refl, sym}
 use mathlib.Core.Bool.{Bool, true, false, true≢false}
 use mathlib.Core.List.{List, [], _∷_, _++_}
-use native.Mathlib.Omega.{arith}
 use borrow.Author.Tests.{ltb-false, ne-eqb}
 use lib.Dec.{ltb, eqb}
 use lib.ListN.{length}
@@ -14,7 +13,9 @@ use Rattle.answer.specs.Checked.{Passed, Checked, both, coded}
 use Rattle.answer.proofs.Ends.{passed-accepts, accepted-passed}
 use Rattle.answer.proofs.Checking.{passed-behind, passed-first, passed-then, passes-here, refused-before, passed-before}
 use Rattle.parts.specs.Split.{Buffers, splitChecks}
-use Rattle.audit.specs.Audit.{cut, added, givenChecks, longChecks, orderChecks, roomChecks, listChecks, auditChecks, Audited, AuditEnds}
+use Rattle.lists.specs.Lists.{cut, added, lentChecks}
+use Rattle.lists.proofs.Counting.{words-all}
+use Rattle.audit.specs.Audit.{longChecks, orderChecks, roomChecks, listChecks, auditChecks, Audited, AuditEnds}
 
 -- ---- the checks of one function behind those of another, each by what `answer::refuses` says of the first one's answer
 
@@ -32,32 +33,24 @@ module _ (maxVars : ℕ) (f : List ℕ) (given : List (List ℕ)) (terms lengths
       (passed-before (orderChecks 1 (f ∷ given)) (roomChecks maxVars (length f) terms lengths work) order refused checked said answer e then)
 
 module _ (maxTerms maxVars : ℕ) (f words ls : List ℕ) (terms lengths work : ℕ) (whole : Answer) (refused : Bool)
-    (checked : Checked (givenChecks maxVars (length words) ls) whole) (said : refused ≡ ltb 0 (whole .code)) where
+    (checked : Checked (lentChecks maxVars (length words) ls) whole) (said : refused ≡ ltb 0 (whole .code)) where
   pub not-whole : refused ≡ true → Checked (auditChecks maxTerms maxVars f words ls terms lengths work) whole
-  not-whole = refused-before (givenChecks maxVars (length words) ls) _ whole refused checked said
+  not-whole = refused-before (lentChecks maxVars (length words) ls) _ whole refused checked said
 
   module _ (passes : refused ≡ false) (long : Answer) (refused′ : Bool) (checked′ : Checked (longChecks maxTerms 1 (length f ∷ ls)) long)
       (said′ : refused′ ≡ ltb 0 (long .code)) where
     pub too-long : refused′ ≡ true → Checked (auditChecks maxTerms maxVars f words ls terms lengths work) long
     too-long e =
-        passed-before (givenChecks maxVars (length words) ls) _ whole refused checked said long passes
+        passed-before (lentChecks maxVars (length words) ls) _ whole refused checked said long passes
         (refused-before (longChecks maxTerms 1 (length f ∷ ls)) _ long refused′ checked′ said′ e)
 
     pub long-passed : (answer : Answer) → refused′ ≡ false → Checked (listChecks maxVars f (cut ls words) terms lengths work) answer
         → Checked (auditChecks maxTerms maxVars f words ls terms lengths work) answer
     long-passed answer e then =
-        passed-before (givenChecks maxVars (length words) ls) _ whole refused checked said answer passes
+        passed-before (lentChecks maxVars (length words) ls) _ whole refused checked said answer passes
         (passed-before (longChecks maxTerms 1 (length f ∷ ls)) _ long refused′ checked′ said′ answer e then)
 
 -- ---- what passed checks tell
-
-pub few-given : (most words : ℕ) (ls : List ℕ) → Passed (givenChecks most words ls) → length ls ≤ most
-unfolding Passed
-few-given most words ls p = ltb-false most (length ls) (p .0)
-
-pub given-whole : (most words : ℕ) (ls : List ℕ) → Passed (givenChecks most words ls) → added ls ≡ words
-unfolding Passed
-given-whole most words ls p = omega (arith, ltb-false words (added ls) (p .1 .0), ltb-false (added ls) words (p .1 .1 .0))
 
 pub approved-fits : (most t : ℕ) (ls : List ℕ) → Passed (longChecks most 1 (t ∷ ls)) → t ≤ most
 unfolding Passed longChecks
@@ -65,7 +58,7 @@ approved-fits most t ls p = ltb-false most t (p .0)
 
 module _ (maxTerms maxVars : ℕ) (f words ls : List ℕ) (terms lengths work : ℕ) (p : Passed (auditChecks maxTerms maxVars f words ls terms lengths work)) where
   pub words-whole : added ls ≡ length words
-  words-whole = given-whole maxVars (length words) ls (passed-first (givenChecks maxVars (length words) ls) _ p)
+  words-whole = words-all maxVars (length words) ls (passed-first (lentChecks maxVars (length words) ls) _ p)
 
   -- split refuses nothing
   pub split-passed : Passed (splitChecks maxTerms maxVars f terms lengths work)
@@ -75,19 +68,19 @@ module _ (maxTerms maxVars : ℕ) (f words ls : List ℕ) (terms lengths work : 
       let order = orderChecks 1 (f ∷ cut ls words) in
       let rooms = roomChecks maxVars (length f) terms lengths work in
       let lists-behind = listChecks maxVars f (cut ls words) terms lengths work in
-      let behind : Passed (long ++ lists-behind) = passed-then (givenChecks maxVars (length words) ls) (long ++ lists-behind) p in
+      let behind : Passed (long ++ lists-behind) = passed-then (lentChecks maxVars (length words) ls) (long ++ lists-behind) p in
       let lists = passed-then long lists-behind behind in
       (passed-first long lists-behind behind .0, (lists .0, (passed-first order rooms (lists .1) .0, passed-then order rooms (lists .1))))
 
 -- and all have passed where each of them has
-pub all-passed : (maxTerms maxVars : ℕ) (f words ls : List ℕ) (terms lengths work : ℕ) → Passed (givenChecks maxVars (length words) ls)
+pub all-passed : (maxTerms maxVars : ℕ) (f words ls : List ℕ) (terms lengths work : ℕ) → Passed (lentChecks maxVars (length words) ls)
     → Passed (longChecks maxTerms 1 (length f ∷ ls)) → (length f ≡ 0 → ⊥) → Passed (orderChecks 1 (f ∷ cut ls words))
     → Passed (roomChecks maxVars (length f) terms lengths work) → Passed (auditChecks maxTerms maxVars f words ls terms lengths work)
 unfolding Passed
 all-passed maxTerms maxVars f words ls terms lengths work given long some order rooms =
     let lists = listChecks maxVars f (cut ls words) terms lengths work in
     let behind : Passed lists = (ne-eqb (length f) 0 some, passed-behind (orderChecks 1 (f ∷ cut ls words)) (roomChecks maxVars (length f) terms lengths work) order rooms) in
-    passed-behind (givenChecks maxVars (length words) ls) (longChecks maxTerms 1 (length f ∷ ls) ++ lists) given
+    passed-behind (lentChecks maxVars (length words) ls) (longChecks maxTerms 1 (length f ∷ ls) ++ lists) given
     (passed-behind (longChecks maxTerms 1 (length f ∷ ls)) lists long behind)
 
 -- ---- an accepted audit
@@ -121,7 +114,7 @@ accepted-audit maxTerms maxVars f words ls old answer new ends taken =
     let order = orderChecks 1 (f ∷ cut ls words) in
     let long = longChecks maxTerms 1 (length f ∷ ls) in
     let lists = listChecks maxVars f (cut ls words) (length (old .terms)) (length (old .lengths)) (length (old .work)) in
-    let given = givenChecks maxVars (length words) ls in
+    let given = lentChecks maxVars (length words) ls in
     let in-lists : coded lists ≡ true = coded-behind order rooms (order-coded 1 (f ∷ cut ls words)) refl in
     let in-all = coded-behind given (long ++ lists) refl (coded-behind long lists (long-coded maxTerms 1 (length f ∷ ls)) in-lists) in
     let passed = accepted-passed old (Audited f (cut ls words) old) (given ++ (long ++ lists)) answer new in-all ends taken in

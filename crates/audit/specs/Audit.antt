@@ -2,32 +2,16 @@
 -- list, then the given parts in their order. The limits are those of the term list and come in as numbers.
 use Prim.Native.Nat.{ℕ, suc, _+_, _*_}
 use mathlib.Core.Path.{_≡_}
-use mathlib.Core.List.{List, [], _∷_, _++_, foldr}
+use mathlib.Core.List.{List, [], _∷_, _++_}
 use mathlib.Core.Logic.{_⊎_}
 use lib.Dec.{ltb, eqb}
-use lib.ListN.{length, take, drop}
+use lib.ListN.{length}
 use Rattle.answer.specs.declared.Answer.{Answer}
 use Rattle.answer.specs.Ends.{Check, check, Ends}
 use Rattle.polys.specs.Parts.{IsParts}
 use Rattle.terms.specs.Order.{unordered}
+use Rattle.lists.specs.Lists.{cut, lentChecks}
 use Rattle.parts.specs.Split.{Buffers, Splits}
-
--- the lists of these lengths that stand one after another
-unfoldable pub cut : List ℕ → List ℕ → List (List ℕ)
-cut [] words = []
-cut (l ∷ ls) words = take l words ∷ cut ls (drop l words)
-
--- the lengths added
-abbrev pub added : List ℕ → ℕ
-added ls = foldr _+_ 0 ls
-
--- there are no more given parts than an equation can have, and their lengths add to the words that were given
-abbrev pub givenChecks : ℕ → ℕ → List ℕ → List Check
-givenChecks maxParts words ls =
-    check (ltb maxParts (length ls)) 2 0 0
-    ∷ check (ltb words (added ls)) 10 0 0
-    ∷ check (ltb (added ls) words) 12 0 0
-    ∷ []
 
 -- for each length, from this operand on: the list is not too long
 unfoldable pub longChecks : ℕ → ℕ → List ℕ → List Check
@@ -57,7 +41,7 @@ listChecks maxVars f given terms lengths work =
 -- the checks of audit in their order; `terms`, `lengths` and `work` are how many words are lent for each
 abbrev pub auditChecks : ℕ → ℕ → List ℕ → List ℕ → List ℕ → ℕ → ℕ → ℕ → List Check
 auditChecks maxTerms maxVars f words ls terms lengths work =
-    givenChecks maxVars (length words) ls
+    lentChecks maxVars (length words) ls
     ++ (longChecks maxTerms 1 (length f ∷ ls)
     ++ listChecks maxVars f (cut ls words) terms lengths work)
 

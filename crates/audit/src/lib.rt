@@ -8,8 +8,9 @@ ghost use Prim.Native.Nat.{_≤_};
 ghost use lib.ListN.{length};
 ghost use Rattle.answer.specs.Table.{numbersOf};
 ghost use Rattle.answer.specs.Checked.{Passed, Checked};
+ghost use Rattle.lists.specs.Lists.{cut, added};
 ghost use Rattle.parts.specs.Split.{splitChecks, Splits};
-ghost use Rattle.audit.specs.Audit.{cut, added, givenChecks, longChecks, orderChecks, roomChecks, listChecks, auditChecks, Audited, AuditEnds};
+ghost use Rattle.audit.specs.Audit.{longChecks, orderChecks, roomChecks, listChecks, auditChecks, Audited, AuditEnds};
 ghost use Rattle.audit.specs.Agree.{Said, Front, Agree};
 
 // Whether the given parts are the parts of the approved list: count 1 for yes, 0 for no. The parts themselves are left in the lent buffers.
@@ -55,7 +56,7 @@ fn checks(
       ⌜ Checked (auditChecks (← ⟦TermList::MAX_TERMS⟧ .entry) (← ⟦TermList::MAX_VARS⟧ .entry) (now (list .entry)) (now (given .entry))
           (now («given_lengths» .entry)) room lengths work) (numbersOf r) ⌝ }
 {
-    let whole = check_given(given.len(), given_lengths);
+    let whole = lists::check_lent(TermList::MAX_VARS, given.len(), given_lengths);
     if answer::refuses(whole) {
         return whole;
     }
@@ -106,31 +107,6 @@ fn check_room(t: usize, room: usize, lengths: usize, work: usize) -> Outcome
     }
     if work < 4 * t {
         return Outcome::Work;
-    }
-    Outcome::Done { count: 0 }
-}
-
-// Refuses too many given parts, and lengths that add to more or to fewer words than were given. What is left of the words is counted down, so
-// that no sum grows too large.
-fn check_given(words: usize, given_lengths: &[u64]) -> Outcome
-    ensures { λ r. do ⌜ Checked (givenChecks (← ⟦TermList::MAX_VARS⟧ .entry) words (now («given_lengths» .entry))) (numbersOf r) ⌝ }
-{
-    let n = given_lengths.len();
-    if TermList::MAX_VARS < n {
-        return Outcome::TooMany { operand: 0 };
-    }
-    let mut left = words as u64;
-    let mut i = 0;
-    while i < n {
-        let length = given_lengths[i];
-        if left < length {
-            return Outcome::Short { operand: 0 };
-        }
-        left -= length;
-        i += 1;
-    }
-    if 0 < left {
-        return Outcome::Extra { operand: 0 };
     }
     Outcome::Done { count: 0 }
 }

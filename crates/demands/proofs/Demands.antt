@@ -6,7 +6,7 @@ use mathlib.Core.Path.{_≡_, refl, sym, ap, ap₂, _∙_, subst}
 use mathlib.Core.Bool.{Bool}
 use mathlib.Core.List.{List, [], _∷_, map, foldr, append-nil}
 use mathlib.Core.Logic.{_⊎_, inl, inr}
-use lib.ListN.{length, take, drop}
+use lib.ListN.{length, getD, take, drop}
 use lib.Seq.{take-at}
 use Rattle.answer.specs.declared.Answer.{Answer}
 use Rattle.answer.specs.Table.{accepted}
@@ -40,12 +40,21 @@ use Rattle.parts.proofs.Determined.{splits-once, split-is-determined}
 use Rattle.typed.specs.Says.{written}
 use Rattle.text.specs.Calls.{readTextChecks, readTerms, ReadTextEnds, writeTextChecks, WriteTextEnds}
 use Rattle.text.proofs.RoundTrip.{AllBelow, reader-is-determined, writer-is-determined, read-of-written, one-text-one-list}
-use Rattle.audit.specs.Audit.{cut, auditChecks, Audited, AuditEnds}
+use Rattle.lists.specs.Lists.{cut}
+use Rattle.lists.proofs.Cutting.{cut-joined, counted-lengths}
+use Rattle.audit.specs.Audit.{auditChecks, Audited, AuditEnds}
 use Rattle.audit.proofs.Determined.{audit-is-determined}
-use Rattle.audit.proofs.Cutting.{cut-joined, counted-lengths}
 use Rattle.audit.proofs.Passing.{accepted-audit}
+use Rattle.deploy.specs.Deploy.{answerWords, Lent, DeployEnds}
+use Rattle.deploy.specs.Work.{WorkAfter}
+use Rattle.deploy.proofs.Determined.{deploy-is-determined}
+use Rattle.deploy.proofs.Boards.{work-cleared-or-kept, refused-deploy-keeps-every-buffer, deployment-of-one-is-a-split, split-is-a-deployment-of-one}
 use Rattle.demands.specs.Told.{told, Holds, Words}
+use Rattle.demands.specs.Room.{Room, EnoughLent}
+use Rattle.demands.specs.Boards.{AllParts}
 use Rattle.demands.proofs.Buffers.{words-below, multiplied-words, added-words, added-at-most}
+use Rattle.demands.proofs.Deployments.{accepted-deployment, each-board-as-alone, board-in-two-deployments}
+use Rattle.demands.proofs.Written.{in-turn-writes-all-parts}
 
 -- ---- demand 1: for every input one answer, and after a refusal every lent buffer holds what it held
 
@@ -82,6 +91,10 @@ pub audit-has-one-ending : (maxTerms maxVars : ℕ) (f words ls : List ℕ) (old
     → AuditEnds maxTerms maxVars f words ls old x new → AuditEnds maxTerms maxVars f words ls old y new′ → (x ≡ y) × (new ≡ new′)
 audit-has-one-ending = audit-is-determined
 
+pub deploy-has-one-ending : (maxLists maxTerms maxVars : ℕ) (words ls : List ℕ) (old : Lent) (x y : Answer) (new new′ : Lent)
+    → DeployEnds maxLists maxTerms maxVars words ls old x new → DeployEnds maxLists maxTerms maxVars words ls old y new′ → (x ≡ y) × (new ≡ new′)
+deploy-has-one-ending = deploy-is-determined
+
 -- the checks of split with these buffers
 abbrev checks : ℕ → ℕ → List ℕ → Buffers → List Check
 checks maxTerms maxVars f old = splitChecks maxTerms maxVars f (length (old .terms)) (length (old .lengths)) (length (old .work))
@@ -116,6 +129,10 @@ pub refused-audit-keeps : (maxTerms maxVars : ℕ) (f words ls : List ℕ) (old 
     → AuditEnds maxTerms maxVars f words ls old answer new → 0 < answer .code → new ≡ old
 refused-audit-keeps maxTerms maxVars f words ls old =
     refusal-keeps old (Audited f (cut ls words) old) (auditChecks maxTerms maxVars f words ls (length (old .terms)) (length (old .lengths)) (length (old .work)))
+
+pub refused-deploy-keeps : (maxLists maxTerms maxVars : ℕ) (words ls : List ℕ) (old : Lent) (answer : Answer) (new : Lent)
+    → DeployEnds maxLists maxTerms maxVars words ls old answer new → 0 < answer .code → new ≡ old
+refused-deploy-keeps = refused-deploy-keeps-every-buffer
 
 -- ---- texts: of lists of words, at the limits of the calls
 
@@ -243,6 +260,49 @@ split-is-audited-yes maxTerms maxVars f old old′ x y new new′ split taken au
     audit-says-yes-exactly-for-the-parts maxTerms maxVars f (joined ps) (lengths ps) old′ y new′ audit taken′ .1
     (subst (IsParts f) (sym (ap (cut (lengths ps)) (sym (append-nil (joined ps))) ∙ cut-joined ps []))
     (accepted-split-holds-the-parts maxTerms maxVars f old x new split taken .parts))
+
+-- ---- a deployment: the boards of a ship in one call
+
+-- an accepted deployment counts its boards; their answers, and the parts of those that are accepted, stand at the start of their buffers, what is
+-- behind them is as it was, and every word of the work area is 0 or, where no board is accepted, as it was
+pub accepted-deployment-holds-the-parts : (maxLists maxTerms maxVars : ℕ) (words ls : List ℕ) (old : Lent) (answer : Answer) (new : Lent)
+    → DeployEnds maxLists maxTerms maxVars words ls old answer new → answer .code ≡ 0
+    → (answers : List Answer) × (all : List (List ℕ)) × (answer ≡ accepted (length ls)) × AllParts (cut ls words) answers all
+    × (new .answers ≡ over (answerWords answers) (old .answers))
+    × (new .outputs .terms ≡ over (joined all) (old .outputs .terms))
+    × (new .outputs .lengths ≡ over (lengths all) (old .outputs .lengths))
+    × WorkAfter answers (old .outputs .work) (new .outputs .work)
+accepted-deployment-holds-the-parts maxLists maxTerms maxVars words ls old answer new ends taken =
+    let d = accepted-deployment maxLists maxTerms maxVars words ls old answer new ends taken in
+    let w = in-turn-writes-all-parts maxTerms maxVars (cut ls words) (old .outputs) (d .1 .0) (new .outputs) (d .1 .3) in
+    (d .1 .0, w .0, d .0, w .1, d .1 .2, w .2 .0, w .2 .1, work-cleared-or-kept maxTerms maxVars (cut ls words) (old .outputs) (d .1 .0) (new .outputs) (d .1 .3))
+
+-- of one board, with room for its answer: it is accepted with count 1, the answer is the split's, and the buffers are as the split leaves them,
+pub deployment-of-one-board-is-a-split : (maxTerms maxVars : ℕ) (f : List ℕ) (maxLists : ℕ) (old : Lent) → 1 ≤ maxLists → 4 ≤ length (old .answers)
+    → (answer : Answer) (new : Lent) → DeployEnds maxLists maxTerms maxVars f (length f ∷ []) old answer new
+    → (answer ≡ accepted 1) × ((own : Answer) × (new .answers ≡ over (answerWords (own ∷ [])) (old .answers)) × SplitEnds maxTerms maxVars f (old .outputs) own (new .outputs))
+deployment-of-one-board-is-a-split = deployment-of-one-is-a-split
+
+-- and whatever a split ends with, the deployment of that board ends so
+pub split-is-a-deployment-of-one-board : (maxTerms maxVars : ℕ) (f : List ℕ) (maxLists : ℕ) (old : Lent) → 1 ≤ maxLists → 4 ≤ length (old .answers)
+    → (own : Answer) (new : Buffers) → SplitEnds maxTerms maxVars f (old .outputs) own new
+    → DeployEnds maxLists maxTerms maxVars f (length f ∷ []) old (accepted 1) (record { answers = over (answerWords (own ∷ [])) (old .answers); outputs = new })
+split-is-a-deployment-of-one-board = split-is-a-deployment-of-one
+
+-- where enough is lent for all, the four words of each board's answer are those of any split of its list alone that has room,
+pub answers-do-not-depend-on-other-boards : (maxLists maxTerms maxVars : ℕ) (words ls : List ℕ) (old : Lent) (answer : Answer) (new : Lent)
+    → DeployEnds maxLists maxTerms maxVars words ls old answer new → answer .code ≡ 0 → Words maxVars words → EnoughLent maxTerms maxVars words ls old
+    → (i : ℕ) → i < length ls → (own : Buffers) (alone : Answer) (after : Buffers) → Room maxTerms maxVars (getD (cut ls words) i []) own
+    → SplitEnds maxTerms maxVars (getD (cut ls words) i []) own alone after → take 4 (drop (4 * i) (new .answers)) ≡ answerWords (alone ∷ [])
+answers-do-not-depend-on-other-boards = each-board-as-alone
+
+-- so a board that stands in two deployments, at whatever places, has the same four words in both
+pub same-board-same-answer : (maxLists maxTerms maxVars : ℕ) (words ls words′ ls′ : List ℕ) (old old′ : Lent) (x y : Answer) (new new′ : Lent)
+    → DeployEnds maxLists maxTerms maxVars words ls old x new → x .code ≡ 0 → DeployEnds maxLists maxTerms maxVars words′ ls′ old′ y new′ → y .code ≡ 0
+    → Words maxVars words → EnoughLent maxTerms maxVars words ls old → Words maxVars words′ → EnoughLent maxTerms maxVars words′ ls′ old′
+    → (i j : ℕ) → i < length ls → j < length ls′ → getD (cut ls words) i [] ≡ getD (cut ls′ words′) j []
+    → take 4 (drop (4 * i) (new .answers)) ≡ take 4 (drop (4 * j) (new′ .answers))
+same-board-same-answer = board-in-two-deployments
 
 -- ---- demand 3: the parts of a product, and the pairs of factors
 

@@ -9,7 +9,7 @@ use Rattle.answer.specs.Ends.{over}
 use Rattle.polys.specs.Parts.{IsParts}
 use Rattle.taking.specs.Joined.{joined, lengths}
 use Rattle.parts.specs.Split.{Buffers}
-use Rattle.audit.specs.Audit.{cut}
+use Rattle.lists.specs.Lists.{cut}
 
 -- as many lengths as were counted, and the part terms cut by them
 abbrev pub told : Answer → Buffers → List (List ℕ)

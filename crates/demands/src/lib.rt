@@ -1,2 +1,2 @@
-// The user's demands as theorems about what the calls promise, and wrong answers that the promise of split does not allow. No code:
+// The user's demands as theorems about what the calls promise, and wrong answers that the promises of split and deploy do not allow. No code:
 // proofs/Demands.antt and proofs/Wrong.antt.

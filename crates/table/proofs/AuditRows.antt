@@ -17,8 +17,9 @@ use Rattle.taking.specs.Joined.{joined, lengths}
 use Rattle.terms.specs.Order.{unordered}
 use Rattle.parts.specs.Split.{Buffers}
 use Rattle.ring.specs.Same.{one-if}
-use Rattle.audit.specs.Audit.{cut, added, givenChecks, longChecks, orderChecks, roomChecks, auditChecks, Audited, AuditEnds}
-use Rattle.audit.proofs.Cutting.{length-of-lengths, length-joined, cut-joined}
+use Rattle.lists.specs.Lists.{cut, added, lentChecks}
+use Rattle.lists.proofs.Cutting.{length-of-lengths, length-joined, cut-joined}
+use Rattle.audit.specs.Audit.{longChecks, orderChecks, roomChecks, auditChecks, Audited, AuditEnds}
 use Rattle.audit.proofs.Passing.{all-passed}
 use Rattle.audit.proofs.Determined.{audit-is-determined}
 use Rattle.table.specs.Examples.{Enough, written, Holds, audits}
@@ -40,10 +41,10 @@ order-pass maxTerms operand [] h = tt
 order-pass maxTerms operand (p ∷ ps) h = (le-ltb (unordered p) (length p) (h .0 .rises), order-pass maxTerms (suc operand) ps (h .1))
 
 -- given parts, put one behind the other, are cut into themselves
-whole : (ps : List (List ℕ)) → cut (lengths ps) (joined ps) ≡ ps
+pub whole : (ps : List (List ℕ)) → cut (lengths ps) (joined ps) ≡ ps
 whole ps = ap (cut (lengths ps)) (sym (append-nil (joined ps))) ∙ cut-joined ps []
 
-module _ (maxTerms maxVars : ℕ) (f : List ℕ) (some : ¬ (length f ≡ 0)) (given : List (List ℕ)) (pass : AllPass maxTerms (f ∷ given))
+module _ (maxBoards maxTerms maxVars : ℕ) (f : List ℕ) (some : ¬ (length f ≡ 0)) (given : List (List ℕ)) (pass : AllPass maxTerms (f ∷ given))
     (few : length given ≤ maxVars) where
   passed : (lent : Buffers) → Enough maxVars (length f) lent
       → Passed (auditChecks maxTerms maxVars f (joined given) (lengths given) (length (lent .terms)) (length (lent .lengths)) (length (lent .work)))
@@ -53,7 +54,7 @@ module _ (maxTerms maxVars : ℕ) (f : List ℕ) (some : ¬ (length f ≡ 0)) (g
       let ls = length (lent .lengths) in
       let work = length (lent .work) in
       let size = length-joined given in
-      let fits : Passed (givenChecks maxVars (length (joined given)) (lengths given)) = (
+      let fits : Passed (lentChecks maxVars (length (joined given)) (lengths given)) = (
         le-ltb maxVars (length (lengths given)) (omega (arith, length-of-lengths given, few)),
         (le-ltb (length (joined given)) (added (lengths given)) (omega (arith, size)), (le-ltb (added (lengths given)) (length (joined given)) (omega (arith, size)), tt)),
       ) in
@@ -69,7 +70,7 @@ module _ (maxTerms maxVars : ℕ) (f : List ℕ) (some : ¬ (length f ≡ 0)) (g
       (inr (ap one-if (a .0), λ others. a .1 (parts-are-unique f given ps others parts)), (length ps, (ps, parts, refl, refl)))
 
   pub audits-holds : (ps : List (List ℕ)) → IsParts f ps → (answer : Bool) → ((answer ≡ true) × (given ≡ ps)) ⊎ ((answer ≡ false) × ¬ (given ≡ ps))
-      → Holds maxTerms maxVars (audits f given ps answer)
+      → Holds maxBoards maxTerms maxVars (audits f given ps answer)
   audits-holds ps parts answer verdict lent room =
       only-end (AuditEnds maxTerms maxVars f (joined given) (lengths given) lent)
       (audit-is-determined maxTerms maxVars f (joined given) (lengths given) lent) (accepted (one-if answer)) (written ps lent)

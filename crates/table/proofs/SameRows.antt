@@ -17,7 +17,7 @@ use Rattle.table.specs.Examples.{Holds, same-products}
 use Rattle.table.proofs.SplitRows.{Passes, only-end}
 use Rattle.table.proofs.SameTest.{is-same, same-of-test, test-of-same}
 
-module _ (maxTerms maxVars : ℕ) (a d b c : List ℕ) (pa : Passes maxTerms a) (pd : Passes maxTerms d) (pb : Passes maxTerms b)
+module _ (maxBoards maxTerms maxVars : ℕ) (a d b c : List ℕ) (pa : Passes maxTerms a) (pd : Passes maxTerms d) (pb : Passes maxTerms b)
     (pc : Passes maxTerms c) where
   tested : (answer : Bool) → is-same maxVars a d b c ≡ answer → Judged maxVars a d b c (one-if answer) (tt {0})
   tested true e = inl (refl, same-of-test maxVars a d b c (subst T (sym e) tt))
@@ -27,7 +27,7 @@ module _ (maxTerms maxVars : ℕ) (a d b c : List ℕ) (pa : Passes maxTerms a) 
   unfolding Passed
   passed = search (le-ltb, tt) depth 12
 
-  pub same-products-holds : (answer : Bool) → is-same maxVars a d b c ≡ answer → Holds maxTerms maxVars (same-products a d b c answer)
+  pub same-products-holds : (answer : Bool) → is-same maxVars a d b c ≡ answer → Holds maxBoards maxTerms maxVars (same-products a d b c answer)
   same-products-holds answer e =
       only-end (λ o _. SameEnds maxTerms maxVars a d b c o) (λ o p _ _ x y. (same-products-is-determined maxTerms maxVars a d b c o p x y, refl))
       (accepted (one-if answer)) tt

@@ -28,20 +28,20 @@ pub only-end : {B : Type 0} (ends : Answer → B → Type 0)
     → (o : Answer) (b : B) → ends o b → EndsOnly ends o b
 only-end ends once o b here = record { allowed = here; only = λ p c there. once p o c b there here }
 
-module _ (maxTerms maxVars : ℕ) (f : List ℕ) (few : length f ≤ maxTerms) where
+module _ (maxBoards maxTerms maxVars : ℕ) (f : List ℕ) (few : length f ≤ maxTerms) where
   abbrev checks : Buffers → List Check
   checks lent = splitChecks maxTerms maxVars f (length (lent .terms)) (length (lent .lengths)) (length (lent .work))
 
   only-split : (lent : Buffers) (o : Answer) (new : Buffers) → SplitEnds maxTerms maxVars f lent o new → EndsOnly (SplitEnds maxTerms maxVars f lent) o new
   only-split lent = only-end (SplitEnds maxTerms maxVars f lent) (split-is-determined maxTerms maxVars f lent)
 
-  pub zero-holds : length f ≡ 0 → Holds maxTerms maxVars (refuses f 1 0)
+  pub zero-holds : length f ≡ 0 → Holds maxBoards maxTerms maxVars (refuses f 1 0)
   zero-holds none lent =
       let c : Checked (checks lent) (refused 1 1 0) = search checking depth 12 in
       only-split lent (refused 1 1 0) lent (ends-if-refused lent (Splits f lent) (checks lent) (refused 1 1 0) c refl)
 
   module _ (some : ¬ (length f ≡ 0)) where
-    pub order-holds : unordered f < length f → Holds maxTerms maxVars (refuses f 3 (unordered f))
+    pub order-holds : unordered f < length f → Holds maxBoards maxTerms maxVars (refuses f 3 (unordered f))
     order-holds falls lent =
         let c : Checked (checks lent) (refused 3 1 (unordered f)) = search checking depth 12 in
         only-split lent (refused 3 1 (unordered f)) lent (ends-if-refused lent (Splits f lent) (checks lent) (refused 3 1 (unordered f)) c refl)
@@ -50,7 +50,7 @@ module _ (maxTerms maxVars : ℕ) (f : List ℕ) (few : length f ≤ maxTerms) w
     unfolding Passed
     passed lent rises room = search (le-ltb, ne-eqb, tt) depth 12
 
-    pub splits-holds : (ps : List (List ℕ)) → length f ≤ unordered f → IsParts f ps → Holds maxTerms maxVars (splits f ps)
+    pub splits-holds : (ps : List (List ℕ)) → length f ≤ unordered f → IsParts f ps → Holds maxBoards maxTerms maxVars (splits f ps)
     splits-holds ps rises parts lent room =
         only-split lent (accepted (length ps)) (written ps lent)
         (ends-if-passed lent (Splits f lent) (checks lent) (length ps) (written ps lent) (passed lent rises room) (ps, parts, refl, refl))

@@ -2,12 +2,13 @@
 -- Assumes nothing.
 use native.Mathlib.Omega.{arith}
 use borrow.Author.Needs.{needs}
-use Prim.Native.Nat.{ℕ, _+_, _-_, _≤_}
-use mathlib.Core.Path.{_≡_, ap}
-use mathlib.Core.List.{List}
+use Prim.Native.Nat.{_+_, _-_, _≤_}
+use mathlib.Core.Path.{_≡_}
 use lib.ListN.{length, getD, take, drop}
-use Rattle.audit.specs.Audit.{added}
-use Rattle.audit.proofs.Listed.{OrderFrom, added-from, approved-out, order-from-first, given-out, order-goes-on, none-out}
+use Rattle.lists.specs.Lists.{added}
+use Rattle.lists.proofs.Cutting.{lent-list}
+use Rattle.lists.proofs.Counting.{added-from}
+use Rattle.audit.proofs.Listed.{OrderFrom, approved-out, order-from-first, given-out, order-goes-on, none-out}
 use Rattle.audit.proofs.check_order.Statement.{statement}
 use Rattle.audit.proofs.check_order.Tie as tie
 
@@ -34,10 +35,6 @@ fit c =
     let a = before-loop here .args in
     omega (arith, here .loop .inv .1, added-from (a .given-lengths .now) (here .loop .i) (omega arith))
 
--- they are its words
-words-of : (words : List ℕ) (at n : ℕ) → take (at + n - at) (drop at words) ≡ take n (drop at words)
-words-of words at n = let e : at + n - at ≡ n = omega arith in ap (λ (k : ℕ). take k (drop at words)) e
-
 returns : tie.Need-returns Inv-loop μ-loop
 returns c =
     let a = entry (c .before) .args in
@@ -56,7 +53,7 @@ returns-2 c =
     let l = getD (a .given-lengths .now) (here .loop .i) 0 in
     let part = take (here .loop .at + l - here .loop .at) (drop (here .loop .at) (a .given .now)) in
     given-out (a .list .now) (a .given .now) (a .given-lengths .now) (here .loop .i) (here .loop .at) part (omega arith)
-    (words-of (a .given .now) (here .loop .at) l) (c .before .first-unordered2 .result) (c .before .first-unordered2 .ensures) (c .if2 .taken) (here .loop .inv .2)
+    (lent-list (a .given .now) (here .loop .at) l) (c .before .first-unordered2 .result) (c .before .first-unordered2 .ensures) (c .if2 .taken) (here .loop .inv .2)
 
 loop-again : tie.Need-loop-again Inv-loop μ-loop
 loop-again c =
@@ -67,7 +64,7 @@ loop-again c =
       omega arith,
       omega (arith, here .loop .inv .1, added-from (a .given-lengths .now) (here .loop .i) (omega arith)),
       order-goes-on (a .list .now) (a .given .now) (a .given-lengths .now) (here .loop .i) (here .loop .at) part (omega arith)
-          (words-of (a .given .now) (here .loop .at) l) (c .before .first-unordered2 .result) (c .before .first-unordered2 .ensures) (omega arith) (here .loop .inv .2),
+          (lent-list (a .given .now) (here .loop .at) l) (c .before .first-unordered2 .result) (c .before .first-unordered2 .ensures) (omega arith) (here .loop .inv .2),
     )
 
 returns-3 : tie.Need-returns-3 Inv-loop μ-loop

@@ -1,0 +1,6 @@
+pub mod Lent
+pub mod Passing
+pub mod Answers
+pub mod Boards
+pub mod Turns
+pub mod Determined

@@ -1,0 +1,3 @@
+pub mod Deploy
+pub mod Turn
+pub mod Work
