@@ -1,6 +1,6 @@
 /* Apfelruder: sums mod 2 of products, split into parts with no common variable.
  *
- * The eight calls of docs/RULES.md, for C and C++. The library behind them is
+ * The nine calls of docs/RULES.md, for C and C++. The library behind them is
  * proved: for every input, each call gives the answer and leaves the buffers that this page describes.
  * What no proof covers is this declaration itself and what a caller passes: see "Memory" below.
  *
@@ -9,6 +9,7 @@
  *   list    a strictly ascending array of at most APFELRUDER_MAX_TERMS terms: a polynomial.
  *           The empty list is zero, the list of the single term 0 is one.
  *   part    an irreducible factor. The parts of a list have no common variable; their product is the list.
+ *   board   one list of a deployment: what deploy splits, up to APFELRUDER_MAX_BOARDS of them, each for itself (RULES 15).
  *   block   a polynomial packed into bytes (RULES 4).
  *   text    a polynomial as a designer types it, in ASCII: x0*x3+x2+1 and a line feed (RULES 12). Terms are joined by +,
  *           the variables x0 to x63 of a term by *, in any order; 1 is the constant term, a lone 0 is zero; no spaces,
@@ -19,12 +20,15 @@
  *     accepted: code 0, operand 0, place 0; count as told at each call.
  *     refused:  code 1 to 15, count 0, and every buffer holds what it held before the call.
  *               operand: which of the inputs, from 1 in the order of the call; 0 for multiply's Shared,
- *                        TooLarge and Room, which concern no single list, and where audit's given parts
- *                        are refused all together. Of audit the approved list is 1 and the k-th given
- *                        part k + 1.
+ *                        TooLarge and Room, which concern no single list, where audit's given parts
+ *                        are refused all together, and wherever deploy is refused as a whole. Of audit
+ *                        the approved list is 1 and the k-th given part k + 1.
  *               place:   for Order the index, from 0, of the first term that is not above the one
  *                        before it, in that operand's own list; for Sign and Twice the index, from 0, of
  *                        the byte of the text that shows it; 0 with every other code.
+ *   An accepted deploy has also written the four numbers of each board, in the order code, operand, place, count: those that
+ *   split gives for that board alone with the room that is left, so a refusal has operand 1 and a place inside the board. A
+ *   board that is refused there does not refuse the call.
  *
  * Memory
  *   A slice is a pointer and the number of its elements (not bytes), in this order.
@@ -32,7 +36,7 @@
  *     simply too short for anything. The pointer that comes with length 0 is never followed; pass a
  *     non-null, suitably aligned one all the same (any object's address will do).
  *   - A null pointer with a length above 0 is an error of the caller: it is not noticed and not refused.
- *   - An output (part_terms, part_lengths, work, out) may overlap no other slice of the same call,
+ *   - An output (answers, part_terms, part_lengths, work, out) may overlap no other slice of the same call,
  *     neither an input nor another output. Overlap is not noticed, and nothing is promised then.
  *     Inputs may overlap one another: same_products(a, a, a, a) is fine.
  *   - The library keeps no pointer, allocates nothing, has no state, and prints nothing. Calls from
@@ -46,7 +50,7 @@
  * Linking
  *   - target/staticlib/libapfelruder.a (`rt staticlib apfelruder`) is for x86-64. For another machine
  *     scripts/native-archive compiles the same proved module: target/native/libapfelruder.a.
- *   - Either archive defines the eight calls below and no other global symbol.
+ *   - Either archive defines the nine calls below and no other global symbol.
  *   - Of the C library it needs memcpy and memset alone; a program without a C library supplies these.
  */
 #ifndef APFELRUDER_H
@@ -59,23 +63,35 @@
  * on still holds; the major number grows when it may not: another limit or buffer size, another shape or
  * meaning of an answer, a call that is gone. */
 #define APFELRUDER_VERSION_MAJOR 1
-#define APFELRUDER_VERSION_MINOR 3
+#define APFELRUDER_VERSION_MINOR 4
 #define APFELRUDER_VERSION (APFELRUDER_VERSION_MAJOR * 1000 + APFELRUDER_VERSION_MINOR)
 
 /* Limits of a list. */
 #define APFELRUDER_MAX_TERMS 1024
 #define APFELRUDER_MAX_VARS 64
 
-/* Bytes of stack that the comparison holds the calls to: read, write, multiply, split, write text and audit; same products;
- * read text, which keeps the terms of a text twice until equal ones have cancelled. */
+/* The most lists that one deploy splits. */
+#define APFELRUDER_MAX_BOARDS 64
+
+/* Bytes of stack that the comparison holds the calls to: read, write, multiply, split, write text, audit and deploy; same
+ * products; read text, which keeps the terms of a text twice until equal ones have cancelled. */
 #define APFELRUDER_STACK_BYTES 16384
 #define APFELRUDER_SAME_PRODUCTS_STACK_BYTES 49152
 #define APFELRUDER_READ_TEXT_STACK_BYTES 24576
 
-/* What split and audit need for a list of t terms, in words of 64 bits. */
+/* What split and audit need for a list of t terms, in words of 64 bits. Of deploy the work area is that of the longest list. */
 #define APFELRUDER_PART_TERMS_WORDS(t) ((size_t)(t) + 64)
 #define APFELRUDER_PART_LENGTHS_WORDS 64
 #define APFELRUDER_WORK_WORDS(t) (4 * (size_t)(t))
+
+/* The words of one answer that deploy writes: code, operand, place, count. */
+#define APFELRUDER_ANSWER_WORDS 4
+
+/* What deploy needs for the answers of its boards, and what is enough for the parts of all of them, in words of 64 bits:
+ * `words` is the number of terms of all boards together. */
+#define APFELRUDER_DEPLOY_ANSWERS_WORDS(boards) (APFELRUDER_ANSWER_WORDS * (size_t)(boards))
+#define APFELRUDER_DEPLOY_PART_TERMS_WORDS(words, boards) ((size_t)(words) + 64 * (size_t)(boards))
+#define APFELRUDER_DEPLOY_PART_LENGTHS_WORDS(boards) (64 * (size_t)(boards))
 
 /* The longest block: 3 bytes and 1,024 terms of 64 bits. */
 #define APFELRUDER_MAX_BLOCK_BYTES 8195
@@ -83,12 +99,13 @@
 /* The longest text that is read or written, its line feed included. */
 #define APFELRUDER_MAX_TEXT_BYTES 65536
 
-/* The codes of refusal, and when each is given. */
+/* The codes of refusal, and when each is given. What is said of split holds for each board of deploy too. */
 enum {
     APFELRUDER_ACCEPTED = 0,
     APFELRUDER_ZERO = 1,      /* split of the empty list, or audit with it as the approved one */
     APFELRUDER_TOO_MANY = 2,  /* a list longer than 1,024 terms, a block that says t above 1,024, a text over 65,536
-                                 bytes or with over 1,024 terms as written, or more than 64 given parts */
+                                 bytes or with over 1,024 terms as written, more than 64 given parts, or more
+                                 than 64 boards */
     APFELRUDER_ORDER = 3,     /* a term not above the one before it; place = its first such index */
     APFELRUDER_SHARED = 4,    /* multiply: a variable in both lists */
     APFELRUDER_TOO_LARGE = 5, /* multiply: the product of the two lengths is above 1,024;
@@ -98,9 +115,9 @@ enum {
     APFELRUDER_FORM = 8,      /* read: the form number is not 1 */
     APFELRUDER_WIDE = 9,      /* read: n above 64 */
     APFELRUDER_SHORT = 10,    /* read: the bytes end before the block does;
-                                 audit: the given lengths add to more words than were lent */
+                                 audit, deploy: the lengths add to more words than were lent */
     APFELRUDER_MISFIT = 11,   /* read: n is larger than one more than the highest variable */
-    APFELRUDER_EXTRA = 12,    /* read: bytes after the block; audit: the given lengths add to fewer words */
+    APFELRUDER_EXTRA = 12,    /* read: bytes after the block; audit, deploy: the lengths add to fewer words */
     APFELRUDER_PAD = 13,      /* read: a padding bit is set */
     APFELRUDER_SIGN = 14,     /* read_text: no equation goes on so, or the text ends too early; place = that byte's
                                  index, or the text's length */
@@ -237,6 +254,36 @@ apfelruder_answer apfelruder_audit(const uint64_t *terms, size_t terms_len,
                                    uint64_t *part_terms, size_t part_terms_len,
                                    uint64_t *part_lengths, size_t part_lengths_len,
                                    uint64_t *work, size_t work_len);
+
+/* Splits all the lists of a deployment, up to 64 boards, and says of each what split says. It is the same as one split after
+ * another in the order of the boards, each with the whole work area and with the room that the boards before it left.
+ *
+ * Needs   words: the lists, one directly behind the other. lengths: their lengths in terms in the same order, 64 at most; they
+ *         add to words_len. answers: 4 words for each board. Enough for every board: part_terms words_len words and 64 more
+ *         for each board, part_lengths 64 words for each board, work 4 words for each term of the longest list
+ *         (APFELRUDER_WORK_WORDS(APFELRUDER_MAX_TERMS) always suffice). With less of these three the call is accepted, and
+ *         the boards that find too little are refused.
+ * Gives   count = the number of boards. The i-th 4 words of answers are the code, operand, place and count of the i-th board:
+ *         accepted 0, 0, 0 and the number of its parts, or refused as under Refuses. The parts of the accepted boards lie one
+ *         after another from the start of part_terms, their lengths from the start of part_lengths, board after board; of
+ *         each board as split leaves them. A refused board takes no room in either and does not stop the next. So the lengths
+ *         of a board's parts begin in part_lengths at the sum of the counts of the boards before it, and its terms in
+ *         part_terms at the sum of all lengths before those. If a board was accepted, every word of work is 0; if none was, work is unchanged. Words of answers, part_terms and part_lengths behind what was
+ *         written are unchanged. No boards and no words: accepted with count 0.
+ * Refuses the whole call, in this order, operand 0 throughout:
+ *         2 TooMany (more than 64 lengths), 10 Short (the lengths add to more than words_len; the sum is exact, also above
+ *         64 bits), 12 Extra (they add to fewer), 6 Room (answers under 4 words for each board).
+ *         A board of t terms, in its answer alone, in this order, operand 1 throughout:
+ *         2 TooMany (t above 1,024), 1 Zero (t = 0), 3 Order (place = index of the term in the board),
+ *         6 Room (what is left of part_terms is under t + 64 words), 6 Room (what is left of part_lengths is under 64 words),
+ *         7 Work (work under 4 t words).
+ */
+apfelruder_answer apfelruder_deploy(const uint64_t *words, size_t words_len,
+                                    const uint64_t *lengths, size_t lengths_len,
+                                    uint64_t *answers, size_t answers_len,
+                                    uint64_t *part_terms, size_t part_terms_len,
+                                    uint64_t *part_lengths, size_t part_lengths_len,
+                                    uint64_t *work, size_t work_len);
 
 #ifdef __cplusplus
 }

@@ -51,3 +51,9 @@ SHIM(audit, (apfelruder_answer *, WORDS(t), WORDS(g), WORDS(k), OUT(p), OUT(l), 
     module_audit(&r, t, t_n, g, g_n, k, k_n, p, p_n, l, l_n, w, w_n);
     return r;
 })
+SHIM(deploy, (apfelruder_answer *, WORDS(t), WORDS(k), OUT(a), OUT(p), OUT(l), OUT(w)),
+     (WORDS(t), WORDS(k), OUT(a), OUT(p), OUT(l), OUT(w)) {
+    apfelruder_answer r;
+    module_deploy(&r, t, t_n, k, k_n, a, a_n, p, p_n, l, l_n, w, w_n);
+    return r;
+})

@@ -1,4 +1,4 @@
-/* What examples-c/split_block.c needs of <stdio.h>, for the kit's compiler, which comes without headers: the declarations of
+/* What the programs of examples-c need of <stdio.h>, for the kit's compiler, which comes without headers: the declarations of
  * the C library that the kit links (glibc for x86-64). */
 #ifndef BARE_STDIO_H
 #define BARE_STDIO_H

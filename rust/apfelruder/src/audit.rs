@@ -1,5 +1,5 @@
 //! Audit, with its room taken for the caller.
-use crate::{raw, Refusal, MAX_TERMS, MAX_VARS};
+use crate::{lent::Lent, raw, Refusal, MAX_TERMS, MAX_VARS};
 use alloc::{vec, vec::Vec};
 
 /// What an audit answers.
@@ -54,38 +54,4 @@ pub fn audit<P: AsRef<[u64]>>(approved: &[u64], given: &[P]) -> Result<Audit, Re
     let mut parts = Vec::with_capacity(count);
     parts.extend(raw::parts(&part_terms, &lengths, count).map(<[u64]>::to_vec));
     Ok(Audit { yes, parts })
-}
-
-/// The given lists one behind the other, as the call takes them, with no more of them than it looks at.
-struct Lent {
-    terms: Vec<u64>,
-    lengths: [u64; MAX_VARS + 1],
-    many: usize,
-}
-
-impl Lent {
-    /// More than 64 lists are refused whatever they are, so nothing of them is copied. A list of more than 1,024 terms is
-    /// refused for its length, so of each no more than 1,025 terms are.
-    fn of<P: AsRef<[u64]>>(given: &[P]) -> Lent {
-        let many = given.len().min(MAX_VARS + 1);
-        let copied = if many > MAX_VARS { &[] } else { given };
-        let mut lengths = [0; MAX_VARS + 1];
-        let mut terms = Vec::with_capacity(copied.iter().map(|list| clipped(list.as_ref()).len()).sum());
-        for (list, length) in copied.iter().zip(&mut lengths) {
-            let list = clipped(list.as_ref());
-            terms.extend_from_slice(list);
-            *length = list.len() as u64;
-        }
-        Lent { terms, lengths, many }
-    }
-
-    /// A number for each list.
-    fn lengths(&self) -> &[u64] {
-        &self.lengths[..self.many]
-    }
-}
-
-/// A list, or as much of it as shows that it is too long.
-fn clipped(list: &[u64]) -> &[u64] {
-    &list[..list.len().min(MAX_TERMS + 1)]
 }

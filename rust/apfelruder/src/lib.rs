@@ -1,4 +1,4 @@
-//! The eight calls of Apfelruder for Rust programs: a sum modulo 2 of products of variables is split into parts that
+//! The nine calls of Apfelruder for Rust programs: a sum modulo 2 of products of variables is split into parts that
 //! share no variable.
 //!
 //! ```
@@ -26,6 +26,7 @@
 //! - **Text**: a list as a designer types it, `x0*x3+x2+1` and a line feed, at most [`MAX_TEXT_BYTES`]. Terms with `+` between
 //!   them, in each its variables with `*` between them, both in any order; `1` is the constant term, a lone `0` is zero. No
 //!   spaces and no leading zeros. Two equal terms cancel. A list has one text that is written: all ascending.
+//! - **Board**: one of the lists of a deployment, which has at most 64 ([`MAX_BOARDS`]). Deploy splits each as split does alone.
 //! - **n**: how many binary digits the largest term of a list takes: 3 if that holds x2 and no higher variable, 0 if no
 //!   variable occurs.
 //! - **Answer**: the four numbers that every call gives: code, operand, place, count ([`raw::Answer`]).
@@ -39,8 +40,9 @@
 //!
 //! The functions of the crate itself answer with a `Result`, and take the room that they need: half a kilobyte at most for
 //! a list that is too long, some 50 kilobytes at most else, and 128 to write a text; audit besides copies the given parts, at
-//! most 1,025 terms of each. Those of [`raw`] work in the caller's buffers and allocate nothing; [`raw::Answer::result`] makes a
-//! `Result` of their answer.
+//! most 1,025 terms of each. Deploy copies the boards in the same way and takes room for the parts of all: some 1.8 megabytes at
+//! most. Those of [`raw`] work in the caller's buffers and allocate nothing; [`raw::Answer::result`] makes a `Result` of their
+//! answer.
 //!
 //! A list whose terms are not ascending is refused, not sorted. To make one of any terms, sort them and drop equal ones in
 //! pairs: modulo 2 they cancel.
@@ -49,7 +51,7 @@
 //!
 //! | feature | what it is for |
 //! |---|---|
-//! | `split`, `multiply`, `same_products`, `read`, `write`, `read_text`, `write_text`, `audit` | the call of that name, and its raw call; what is off is not asked of the archive |
+//! | `split`, `multiply`, `same_products`, `read`, `write`, `read_text`, `write_text`, `audit`, `deploy` | the call of that name, and its raw call; what is off is not asked of the archive |
 //! | `alloc` | the functions that answer with a `Vec` or a `String`, that is all but `same_products` |
 //!
 //! All are on by default. The crate is `no_std` and has no dependency; with `default-features = false` and some calls it
@@ -73,6 +75,10 @@ mod refusal;
 
 #[cfg(all(feature = "audit", feature = "alloc"))]
 mod audit;
+#[cfg(all(feature = "deploy", feature = "alloc"))]
+mod deploy;
+#[cfg(all(any(feature = "audit", feature = "deploy"), feature = "alloc"))]
+mod lent;
 #[cfg(all(feature = "multiply", feature = "alloc"))]
 mod multiply;
 #[cfg(all(feature = "read", feature = "alloc"))]
@@ -90,6 +96,8 @@ mod write_text;
 
 #[cfg(all(feature = "audit", feature = "alloc"))]
 pub use audit::{audit, Audit};
+#[cfg(all(feature = "deploy", feature = "alloc"))]
+pub use deploy::{deploy, Board};
 #[cfg(all(feature = "multiply", feature = "alloc"))]
 pub use multiply::multiply;
 #[cfg(all(feature = "read", feature = "alloc"))]
@@ -110,6 +118,8 @@ pub use write_text::write_text;
 pub const MAX_TERMS: usize = 1024;
 /// The number of variables.
 pub const MAX_VARS: usize = 64;
+/// The most boards that a deployment has.
+pub const MAX_BOARDS: usize = 64;
 /// The length of the longest block: 3 bytes, and 1,024 terms of 64 bits.
 pub const MAX_BLOCK_BYTES: usize = 8195;
 /// The length of the longest text that is read or written, its line feed included.

@@ -2,7 +2,7 @@
 //! (include/apfelruder.h) asks of a caller, slices that are there and outputs that overlap nothing, Rust's references give.
 //!
 //! A refused call leaves every buffer as it was. An accepted one leaves what is behind its output unchanged, so a buffer
-//! may be longer than needed.
+//! may be longer than needed. A board that deploy refuses changes nothing but its answer.
 //!
 //! ```
 //! # #[cfg(feature = "split")] {
@@ -24,6 +24,9 @@
 #![allow(unsafe_code)] // the boundary to the archive, and the only place
 use crate::{Refusal, MAX_VARS};
 
+/// The words that deploy writes for each board: code, operand, place, count.
+pub const ANSWER_WORDS: usize = 4;
+
 /// The words that split and audit need for the lengths of the parts.
 pub const PART_LENGTHS_WORDS: usize = MAX_VARS;
 
@@ -33,10 +36,28 @@ pub const fn part_terms_words(t: usize) -> usize {
     t.saturating_add(MAX_VARS)
 }
 
-/// The words that split and audit need as work area for a list of t terms.
+/// The words that split and audit need as work area for a list of t terms, and deploy for boards of t terms at most.
 #[must_use]
 pub const fn work_words(t: usize) -> usize {
     t.saturating_mul(4)
+}
+
+/// The words that deploy needs for the answers of so many boards.
+#[must_use]
+pub const fn deploy_answers_words(boards: usize) -> usize {
+    boards.saturating_mul(ANSWER_WORDS)
+}
+
+/// The words with which deploy has room for the terms of the parts of so many boards, whose terms are so many words in all.
+#[must_use]
+pub const fn deploy_part_terms_words(words: usize, boards: usize) -> usize {
+    words.saturating_add(boards.saturating_mul(MAX_VARS))
+}
+
+/// The words with which deploy has room for the lengths of the parts of so many boards.
+#[must_use]
+pub const fn deploy_part_lengths_words(boards: usize) -> usize {
+    boards.saturating_mul(PART_LENGTHS_WORDS)
 }
 
 /// The four numbers of every answer.
@@ -139,6 +160,21 @@ mod c {
             work: *mut u64,
             work_len: usize,
         ) -> super::Answer;
+        #[cfg(feature = "deploy")]
+        pub fn apfelruder_deploy(
+            words: *const u64,
+            words_len: usize,
+            lengths: *const u64,
+            lengths_len: usize,
+            answers: *mut u64,
+            answers_len: usize,
+            part_terms: *mut u64,
+            part_terms_len: usize,
+            part_lengths: *mut u64,
+            part_lengths_len: usize,
+            work: *mut u64,
+            work_len: usize,
+        ) -> super::Answer;
     }
 }
 
@@ -166,9 +202,9 @@ pub fn split(terms: &[u64], part_terms: &mut [u64], part_lengths: &mut [u64], wo
     }
 }
 
-/// The parts that an accepted split or audit has left in its buffers, `count` of them. It never reads outside of the buffers:
-/// numbers that no such call gave end the walk early.
-#[cfg(any(feature = "split", feature = "audit"))]
+/// The parts that an accepted split or audit has left in its buffers, `count` of them; from deploy, those of the board whose
+/// parts the slices begin with. It never reads outside of the buffers: numbers that no such call gave end the walk early.
+#[cfg(any(feature = "split", feature = "audit", feature = "deploy"))]
 pub fn parts<'a>(part_terms: &'a [u64], part_lengths: &'a [u64], count: usize) -> impl Iterator<Item = &'a [u64]> + 'a {
     let mut rest = part_terms;
     part_lengths.iter().take(count).map_while(move |&length| {
@@ -289,4 +325,80 @@ pub fn audit(
             work.len(),
         )
     }
+}
+
+/// Splits the boards of a deployment, up to 64 lists, as single splits made in turn.
+///
+/// `words` holds the lists one behind the other, `lengths` their lengths in the same order. `answers` takes
+/// [`ANSWER_WORDS`] for each list, so [`deploy_answers_words`]; [`answers`] walks over them. Each list is split with the room of
+/// `part_terms` and `part_lengths` that the accepted ones before it left, and with the whole work area: the parts of all
+/// accepted boards lie one after another. [`deploy_part_terms_words`], [`deploy_part_lengths_words`] and [`work_words`] of the
+/// longest list suffice for every board. Count: the number of lists.
+///
+/// Refuses, in this order and with operand 0: 2 `TooMany` (more than 64 lengths), 10 `Short` (the lengths add to more words than
+/// `words` has; they may add to more than a `u64` holds), 12 `Extra` (they add to fewer), 6 `Room` (answers). Else it is accepted,
+/// and each list has the answer of a split in `answers`, with operand 1: a board that is refused takes no room, changes
+/// nothing else and does not stop the next. Every word of `work` is 0 then if a board is accepted, and as it was if none is.
+///
+/// ```
+/// use apfelruder::raw::{self, Answer};
+///
+/// // (x0 + x1)(1 + x2), then a list out of order, then x0 x1
+/// let (words, lengths) = ([1, 2, 5, 6, 2, 1, 3], [4, 2, 1]);
+/// let mut answers = [0; raw::deploy_answers_words(3)];
+/// let mut part_terms = [0; raw::deploy_part_terms_words(7, 3)];
+/// let mut part_lengths = [0; raw::deploy_part_lengths_words(3)];
+/// let mut work = [0; raw::work_words(4)];
+/// let told = raw::deploy(&words, &lengths, &mut answers, &mut part_terms, &mut part_lengths, &mut work);
+/// assert_eq!(told.result(), Ok(3));
+/// let mut boards = raw::answers(&answers);
+/// assert_eq!(boards.next(), Some(Answer { code: 0, operand: 0, place: 0, count: 2 }));
+/// assert_eq!(boards.next(), Some(Answer { code: 3, operand: 1, place: 1, count: 0 }));
+/// assert_eq!(boards.next(), Some(Answer { code: 0, operand: 0, place: 0, count: 2 }));
+/// // the parts of the third board lie behind those of the boards before it, of which one has none
+/// let before: u64 = raw::answers(&answers).take(2).map(|answer| answer.count).sum();
+/// let (filled, lengths) = part_lengths.split_at(before as usize);
+/// let terms = &part_terms[filled.iter().sum::<u64>() as usize..];
+/// let mut parts = raw::parts(terms, lengths, 2);
+/// assert_eq!(parts.next(), Some(&[1][..]));
+/// assert_eq!(parts.next(), Some(&[2][..]));
+/// ```
+#[cfg(feature = "deploy")]
+pub fn deploy(
+    words: &[u64],
+    lengths: &[u64],
+    answers: &mut [u64],
+    part_terms: &mut [u64],
+    part_lengths: &mut [u64],
+    work: &mut [u64],
+) -> Answer {
+    // SAFETY: as for split.
+    unsafe {
+        c::apfelruder_deploy(
+            words.as_ptr(),
+            words.len(),
+            lengths.as_ptr(),
+            lengths.len(),
+            answers.as_mut_ptr(),
+            answers.len(),
+            part_terms.as_mut_ptr(),
+            part_terms.len(),
+            part_lengths.as_mut_ptr(),
+            part_lengths.len(),
+            work.as_mut_ptr(),
+            work.len(),
+        )
+    }
+}
+
+/// The answers that an accepted deploy has written, four words for each board. Pass the words of the boards alone
+/// ([`deploy_answers_words`]), not what is lent behind them; at the end fewer than four words are no answer.
+#[cfg(feature = "deploy")]
+pub fn answers(words: &[u64]) -> impl Iterator<Item = Answer> + '_ {
+    words.chunks_exact(ANSWER_WORDS).map(|four| Answer {
+        code: four[0],
+        operand: four[1],
+        place: four[2],
+        count: four[3],
+    })
 }

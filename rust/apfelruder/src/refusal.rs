@@ -6,7 +6,8 @@ use core::{error, fmt};
 ///
 /// A refusal stands for three numbers, [`code`](Refusal::code), [`operand`](Refusal::operand) and
 /// [`place`](Refusal::place), and keeps them all. Where the table leaves a number open it is a field: an operand counts
-/// the inputs of the call from 1 and is 0 if no single one is meant, a place is an index from 0.
+/// the inputs of the call from 1 and is 0 if no single one is meant, a place is an index from 0. A board that deploy refuses
+/// has the refusal of its split alone: operand 1 is that board's list.
 ///
 /// A later version of the library may have more codes, so a `match` needs a last arm for the rest.
 #[derive(Clone, Copy, Debug, PartialEq, Eq, Hash)]
@@ -15,10 +16,10 @@ pub enum Refusal {
     /// Code 1: split of the empty list, which is zero and is no product of parts; audit, if that is the approved list. Operand 1.
     Zero,
     /// Code 2: a list has more than 1,024 terms; from read, the block says so; from read text, so many are written, or the
-    /// text has more than 65,536 bytes; from audit also, more than 64 parts are given.
+    /// text has more than 65,536 bytes; from audit also, more than 64 parts are given; from deploy, more than 64 boards.
     TooMany {
         /// Which list: 1 or 2 from multiply, 1 to 4 (a, d, b, c) from same products, 1 (approved) to 65 from audit, 1 else.
-        /// 0 from audit if there are too many given parts.
+        /// 0 from audit if there are too many given parts, from deploy if there are too many boards.
         operand: u64,
     },
     /// Code 3: a term is not above the one before it. Terms ascend and none stands twice.
@@ -38,7 +39,7 @@ pub enum Refusal {
     },
     /// Code 6: a lent output is too short. Only raw calls can give it: the others lend enough.
     Room {
-        /// 0 from multiply, whose room depends on both lists; 1 else.
+        /// 0 from multiply, whose room depends on both lists, and from deploy if the answers have too little; 1 else.
         operand: u64,
     },
     /// Code 7: split and audit, the work area is shorter than 4 words a term. Operand 1. Only raw calls can give it.
@@ -47,18 +48,18 @@ pub enum Refusal {
     Form,
     /// Code 9: read, the block says n above 64.
     Wide,
-    /// Code 10: read, the bytes end before the block does, and under 3 bytes is always this; audit, the given lengths add to
-    /// more words than were lent. The safe audit lends what it counts, so only its raw call can give it.
+    /// Code 10: read, the bytes end before the block does, and under 3 bytes is always this; audit and deploy, the lengths
+    /// add to more words than were lent. The safe ones lend what they count, so only the raw calls can give it.
     Short {
-        /// 1 from read, 0 from audit.
+        /// 1 from read, 0 from audit and deploy.
         operand: u64,
     },
     /// Code 11: read, the block's n is larger than one more than the highest variable of its list.
     Misfit,
-    /// Code 12: read, there are bytes after the block; audit, the given lengths add to fewer words than were lent, which only
-    /// its raw call can give.
+    /// Code 12: read, there are bytes after the block; audit and deploy, the lengths add to fewer words than were lent,
+    /// which only the raw calls can give.
     Extra {
-        /// 1 from read, 0 from audit.
+        /// 1 from read, 0 from audit and deploy.
         operand: u64,
     },
     /// Code 13: read, one of the bits that fill up the last byte is set.
@@ -186,7 +187,7 @@ impl fmt::Display for List {
 impl fmt::Display for Refusal {
     fn fmt(&self, f: &mut fmt::Formatter<'_>) -> fmt::Result {
         let sentence = match *self {
-            Refusal::TooMany { operand: 0 } => "more than 64 parts are given",
+            Refusal::TooMany { operand: 0 } => "more than 64 parts or boards are given",
             Refusal::TooMany { operand: 1 } => {
                 "the first list has more than 1,024 terms, or the text more than 65,536 bytes"
             }
@@ -215,10 +216,10 @@ impl fmt::Display for Refusal {
             Refusal::Work => "the work area is shorter than 4 words a term",
             Refusal::Form => "the form number of the block is not 1",
             Refusal::Wide => "the block says n above 64",
-            Refusal::Short { operand: 0 } => "the lengths of the given parts add to more words than were lent",
+            Refusal::Short { operand: 0 } => "the given lengths add to more words than were lent",
             Refusal::Short { .. } => "the bytes end before the block does",
             Refusal::Misfit => "the block says a larger n than its highest variable asks for",
-            Refusal::Extra { operand: 0 } => "the lengths of the given parts add to fewer words than were lent",
+            Refusal::Extra { operand: 0 } => "the given lengths add to fewer words than were lent",
             Refusal::Extra { .. } => "there are bytes after the block",
             Refusal::Pad => "a padding bit at the end of the block is set",
         };

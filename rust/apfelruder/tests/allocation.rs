@@ -72,6 +72,28 @@ fn audit_of_long_lists() {
     assert_eq!(bytes, (1024 + 1088 + 4096 + 20) * 8 + 10 * size_of::<Vec<u64>>());
 }
 
+#[cfg(feature = "deploy")]
+#[test]
+fn deploy_of_long_lists() {
+    use apfelruder::{deploy, Board, Refusal};
+    let long = vec![5; 1_000_000];
+    // too many boards: nothing is copied and nothing is lent
+    let (told, bytes) = taken(|| deploy(&[&long; 65]));
+    assert_eq!((told, bytes), (Err(Refusal::TooMany { operand: 0 }), 0));
+    // of boards that are too long no more is copied than shows it; four words of answer and 64 of lengths for each, no work area
+    let (told, bytes) = taken(|| deploy(&[&long, &long]));
+    assert_eq!(told, Ok(vec![Err(Refusal::TooMany { operand: 1 }); 2]));
+    assert_eq!(bytes, 2 * ((1025 + 4 + 1089 + 64) * 8 + size_of::<Board>()));
+    let all: Vec<u64> = (0..1024).collect();
+    let (told, bytes) = taken(|| deploy(&vec![all.clone(); 64]));
+    assert_eq!(told.map(|boards| boards.iter().flatten().map(Vec::len).sum::<usize>()), Ok(640));
+    // the boards that were made here, the same one behind the other, answers, parts and lengths of all; the work area; for each
+    // board its ten parts of two terms and their list
+    let lent = (64 * (1024 + 1024 + 4 + 1088 + 64) + 4096) * 8;
+    let parts = 64 * (10 * (size_of::<Vec<u64>>() + 2 * 8) + size_of::<Board>() + size_of::<Vec<u64>>());
+    assert_eq!(bytes, lent + parts);
+}
+
 #[cfg(feature = "multiply")]
 #[test]
 fn multiply_of_long_lists() {

@@ -78,11 +78,11 @@ fn sentences() {
     assert_eq!(said(Refusal::TooMany { operand: 3 }), "the third list has more than 1,024 terms");
     assert_eq!(said(Refusal::TooMany { operand: 4 }), "the fourth list has more than 1,024 terms");
     assert_eq!(said(Refusal::TooMany { operand: 5 }), "list 5 has more than 1,024 terms");
-    assert_eq!(said(Refusal::TooMany { operand: 0 }), "more than 64 parts are given");
+    assert_eq!(said(Refusal::TooMany { operand: 0 }), "more than 64 parts or boards are given");
     assert_eq!(said(Refusal::Short { operand: 1 }), "the bytes end before the block does");
     assert_eq!(said(Refusal::Extra { operand: 1 }), "there are bytes after the block");
-    assert_eq!(said(Refusal::Short { operand: 0 }), "the lengths of the given parts add to more words than were lent");
-    assert_eq!(said(Refusal::Extra { operand: 0 }), "the lengths of the given parts add to fewer words than were lent");
+    assert_eq!(said(Refusal::Short { operand: 0 }), "the given lengths add to more words than were lent");
+    assert_eq!(said(Refusal::Extra { operand: 0 }), "the given lengths add to fewer words than were lent");
     assert_eq!(said(Refusal::Shared), "a variable is in both lists");
     assert_eq!(said(Refusal::TooLarge { operand: 0 }), "the product would have more than 1,024 terms");
     assert_eq!(said(Refusal::TooLarge { operand: 1 }), "the text would have more than 65,536 bytes");

@@ -1,8 +1,8 @@
 //! The calls against each other: what write packs read unpacks, what is written as text reads as the list, the parts of a
-//! list multiply to it, and an audit finds that they are the parts.
+//! list multiply to it, an audit finds that they are the parts, and a deployment gives each board the parts that it has alone.
 #![cfg(all(feature = "alloc", feature = "split", feature = "multiply", feature = "read", feature = "write"))]
-#![cfg(all(feature = "read_text", feature = "write_text", feature = "audit"))]
-use apfelruder::{audit, multiply, read, read_text, split, write, write_text};
+#![cfg(all(feature = "read_text", feature = "write_text", feature = "audit", feature = "deploy"))]
+use apfelruder::{audit, deploy, multiply, read, read_text, split, write, write_text, Refusal, MAX_BOARDS};
 
 /// Lists of all shapes: constants, one term, many variables, the limits.
 fn lists() -> Vec<Vec<u64>> {
@@ -64,4 +64,20 @@ fn split_and_audited() {
         assert_eq!(whole.yes, parts.len() == 1, "{list:?}");
         assert_eq!(whole.parts, parts);
     }
+}
+
+#[test]
+fn split_and_deployed() {
+    let mut lists = lists();
+    // some that are refused, between the others
+    for (at, list) in [(0, vec![]), (3, vec![2, 1]), (70, vec![5; 1025]), (71, vec![]), (200, vec![0, 1, 1])] {
+        lists.insert(at, list);
+    }
+    for many in [1, 2, 5, 63, MAX_BOARDS] {
+        for boards in lists.chunks(many) {
+            let alone: Vec<_> = boards.iter().map(|board| split(board)).collect();
+            assert_eq!(deploy(boards), Ok(alone));
+        }
+    }
+    assert_eq!(deploy(&lists[..MAX_BOARDS + 1]), Err(Refusal::TooMany { operand: 0 }));
 }

@@ -2,10 +2,10 @@
  * For a machine that cannot link the archive into the comparing program but can run it, as under an emulator.
  *
  * All numbers are words of 64 bits in the machine's order. A call: its number (0 split, 1 multiply, 2 same products,
- * 3 read, 4 write, 5 read text, 6 write text, 7 audit); for each slice where it begins, in bytes, and its length; the length
- * in words of the memory that holds them all, and that memory. What comes back: the four numbers, and the memory as the call
- * left it. The comparing program lays the slices out, so it sees what was written between them. If 8 is added to the number
- * of a call, the bytes of stack that it took come first.
+ * 3 read, 4 write, 5 read text, 6 write text, 7 audit, 8 deploy); for each slice where it begins, in bytes, and its length; the
+ * length in words of the memory that holds them all, and that memory. What comes back: the four numbers, and the memory as the
+ * call left it. The comparing program lays the slices out, so it sees what was written between them. If 16 is added to the
+ * number of a call, the bytes of stack that it took come first.
  * Compiled with -DNO_SPLIT, -DNO_MULTIPLY, .. it does without that call. */
 #include "../../../include/apfelruder.h"
 
@@ -17,9 +17,10 @@ enum { MOST_WORDS = 1 << 20 };
 static uint64_t memory[MOST_WORDS];
 
 /* For each call the size of the elements of its slices; 0: no such slice. */
-enum { CALLS = 8, SLICES = 6 };
-static const unsigned char element[CALLS][SLICES] = {{8, 8, 8, 8}, {8, 8, 8}, {8, 8, 8, 8}, {1, 8},
-                                                     {8, 1},       {1, 8},    {8, 1},       {8, 8, 8, 8, 8, 8}};
+enum { CALLS = 9, SLICES = 6, MEASURED = 16 };
+static const unsigned char element[CALLS][SLICES] = {{8, 8, 8, 8}, {8, 8, 8}, {8, 8, 8, 8},       {1, 8},
+                                                     {8, 1},       {1, 8},    {8, 1},             {8, 8, 8, 8, 8, 8},
+                                                     {8, 8, 8, 8, 8, 8}};
 
 static uint64_t lengths[SLICES], words;
 static unsigned char *slices[SLICES];
@@ -86,6 +87,9 @@ static apfelruder_answer make(uint64_t call) {
 #ifndef NO_AUDIT
     case 7: return apfelruder_audit(WORDS(0), WORDS(1), WORDS(2), WORDS(3), WORDS(4), WORDS(5));
 #endif
+#ifndef NO_DEPLOY
+    case 8: return apfelruder_deploy(WORDS(0), WORDS(1), WORDS(2), WORDS(3), WORDS(4), WORDS(5));
+#endif
     default: return none;
     }
 }
@@ -107,9 +111,9 @@ static __attribute__((noinline)) uint64_t below(int painting) {
 
 int main(void) {
     uint64_t call;
-    while (take(&call, 8) && (call & ~(uint64_t)8) < CALLS) {
-        int measured = call >= 8;
-        call %= 8;
+    while (take(&call, 8) && (call & ~(uint64_t)MEASURED) < CALLS) {
+        int measured = call >= MEASURED;
+        call %= MEASURED;
         if (!take_memory(call)) return 1;
         if (measured) below(1);
         apfelruder_answer answer = make(call);

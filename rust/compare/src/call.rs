@@ -11,10 +11,11 @@ pub enum Call {
     ReadText,
     WriteText,
     Audit,
+    Deploy,
 }
 
 impl Call {
-    pub const ALL: [Call; 8] = [
+    pub const ALL: [Call; 9] = [
         Call::Split,
         Call::Multiply,
         Call::SameProducts,
@@ -23,10 +24,13 @@ impl Call {
         Call::ReadText,
         Call::WriteText,
         Call::Audit,
+        Call::Deploy,
     ];
 
     pub fn name(self) -> &'static str {
-        ["split", "multiply", "same_products", "read", "write", "read_text", "write_text", "audit"][self as usize]
+        let names =
+            ["split", "multiply", "same_products", "read", "write", "read_text", "write_text", "audit", "deploy"];
+        names[self as usize]
     }
 }
 
@@ -117,6 +121,12 @@ impl Request {
         Request::new(Call::Audit, inputs.into_iter().chain(lent.map(Slice::Words)).collect())
     }
 
+    /// Deploy: the boards one behind the other, their lengths, and what is lent: answers, and then as for split.
+    pub fn deploy(words: &[u64], lengths: &[u64], lent: [Vec<u64>; 4]) -> Request {
+        let inputs = [words, lengths].map(|input| Slice::Words(input.to_vec()));
+        Request::new(Call::Deploy, inputs.into_iter().chain(lent.map(Slice::Words)).collect())
+    }
+
     /// Multiply of two parts of one piece of memory.
     pub fn multiply_within(words: &[u64], parts: [Range<usize>; 2], out: Vec<u64>) -> Request {
         let mut request = Request::multiply(&words[parts[0].clone()], &words[parts[1].clone()], out);
@@ -131,6 +141,13 @@ impl Request {
         request
     }
 
+    /// Deploy with its two inputs in one piece of memory.
+    pub fn deploy_within(words: &[u64], parts: [Range<usize>; 2], lent: [Vec<u64>; 4]) -> Request {
+        let mut request = Request::deploy(&words[parts[0].clone()], &words[parts[1].clone()], lent);
+        request.pool = Some(Pool { words: words.to_vec(), parts: parts.to_vec() });
+        request
+    }
+
     /// Audit with its three inputs in one piece of memory.
     pub fn audit_within(words: &[u64], parts: [Range<usize>; 3], lent: [Vec<u64>; 3]) -> Request {
         let [approved, given, lengths] = [0, 1, 2].map(|i: usize| &words[parts[i].clone()]);
@@ -139,6 +156,9 @@ impl Request {
         request
     }
 }
+
+/// What a deployment says of one board: its parts, or code, operand and place.
+pub type Board = Result<Vec<Vec<u64>>, [u64; 3]>;
 
 /// What a call must give by the way in which its input was made, or by the rules' own words.
 pub enum Expected {
@@ -154,6 +174,8 @@ pub enum Expected {
     Parts(Vec<Vec<u64>>),
     /// Audit: yes or no, and these parts.
     Audited(bool, Vec<Vec<u64>>),
+    /// Deploy: this of each board, in turn.
+    Deployed(Vec<Board>),
 }
 
 impl Expected {
@@ -183,6 +205,23 @@ impl Expected {
                 lay_out(parts, terms, lengths);
                 work.fill(0);
                 accepted(*yes as usize)
+            }
+            (
+                Expected::Deployed(boards),
+                [_, _, Slice::Words(answers), Slice::Words(terms), Slice::Words(lengths), Slice::Words(work)],
+            ) => {
+                for (board, four) in boards.iter().zip(answers.chunks_exact_mut(4)) {
+                    four.copy_from_slice(&match board {
+                        Ok(parts) => accepted(parts.len()),
+                        Err([code, operand, place]) => [*code, *operand, *place, 0],
+                    });
+                }
+                let parts: Vec<Vec<u64>> = boards.iter().flatten().flatten().cloned().collect();
+                lay_out(&parts, terms, lengths);
+                if boards.iter().any(|board| board.is_ok()) {
+                    work.fill(0);
+                }
+                accepted(boards.len())
             }
             _ => panic!("an answer that {} does not give", request.call.name()),
         };
@@ -219,6 +258,10 @@ pub fn independently(request: &Request) -> Reply {
             Call::Audit,
             [Slice::Words(t), Slice::Words(g), Slice::Words(n), Slice::Words(p), Slice::Words(l), Slice::Words(w)],
         ) => independent::audit(t, g, n, p, l, w),
+        (
+            Call::Deploy,
+            [Slice::Words(b), Slice::Words(n), Slice::Words(a), Slice::Words(p), Slice::Words(l), Slice::Words(w)],
+        ) => independent::deploy(b, n, a, p, l, w),
         _ => panic!("slices that {} does not take", request.call.name()),
     };
     Reply { answer: [answer.code, answer.operand, answer.place, answer.count], slices }

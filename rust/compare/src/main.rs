@@ -24,7 +24,7 @@ mod run;
 mod stack;
 
 use call::Call;
-use families::{audit_refusals, audits, blocks, examples, kinds, lengths, lists};
+use families::{audit_refusals, audits, blocks, deploy_refusals, deployments, examples, kinds, lengths, lists};
 use families::{quadruples, refusals, shared, sizes, small, texts, written};
 use peer::{Bridge, Peer};
 use random::Random;
@@ -139,7 +139,7 @@ fn compare(run: &mut Run, seconds: Option<u64>, share: usize, seed: u64) -> Resu
 /// The run of the gate. Of what is made by chance, and of blocks and texts with every bit or byte changed, only a share if that
 /// is wanted; the families are the same.
 fn fixed(run: &mut Run, share: usize, seed: u64) {
-    if Call::ALL.into_iter().any(|call| call != Call::Audit && run.has(call)) {
+    if Call::ALL.into_iter().any(|call| !matches!(call, Call::Audit | Call::Deploy) && run.has(call)) {
         fixed_others(run, share);
     }
     // from a seed of their own, so that they are the same if nothing else is made before
@@ -150,6 +150,12 @@ fn fixed(run: &mut Run, share: usize, seed: u64) {
     audits::cube(run);
     audit_refusals::all(run);
     audit_refusals::random(run, 10_000 / share);
+    run.random = Random::new(seed.rotate_left(32) ^ u64::MAX >> 1);
+    deployments::all(run);
+    deploy_refusals::all(run);
+    deployments::large(run);
+    deployments::random(run, 10_000 / share);
+    deploy_refusals::random(run, 10_000 / share);
 }
 
 fn fixed_others(run: &mut Run, share: usize) {
@@ -218,6 +224,7 @@ fn for_a_while(run: &mut Run, time: Duration) {
     texts::refusals(run);
     written::refusals(run);
     audit_refusals::refusals(run);
+    deploy_refusals::refusals(run);
     while Instant::now() < end {
         refusals::random(run, 2_000);
         shared::all(run, 500);
@@ -236,5 +243,7 @@ fn for_a_while(run: &mut Run, time: Duration) {
         audits::random(run, 100);
         audits::long(run, 1);
         audit_refusals::random(run, 200);
+        deployments::random(run, 200);
+        deploy_refusals::random(run, 200);
     }
 }

@@ -5,6 +5,9 @@ use crate::call::{Reply, Request};
 use std::io::{self, BufReader, BufWriter, Read, Write};
 use std::process::{Child, ChildStdin, ChildStdout, Command, Stdio};
 
+/// What is added to the number of a call that the bridge is to measure: more than there are calls.
+const MEASURED: usize = 16;
+
 pub trait Peer {
     /// Makes the call in this memory and gives the four numbers. An error says that the library is gone.
     fn call(&mut self, request: &Request, arena: &mut Arena) -> Result<[u64; 4], String>;
@@ -75,9 +78,9 @@ impl Bridge {
         self.receive(arena)
     }
 
-    /// The bridge measures if the number of the call is raised by 8, and says the bytes first.
+    /// The bridge measures if the number of the call is raised, and says the bytes first.
     fn ask_measured(&mut self, request: &Request, arena: &mut Arena) -> io::Result<(usize, [u64; 4])> {
-        self.send(request.call as usize + 8, request, arena)?;
+        self.send(request.call as usize + MEASURED, request, arena)?;
         Ok((self.number()? as usize, self.receive(arena)?))
     }
 }
@@ -189,6 +192,8 @@ mod linked {
             Call::WriteText => Some(raw::write_text(row.lent(0), row.out(1))),
             #[cfg(feature = "audit")]
             Call::Audit => Some(raw::audit(row.lent(0), row.lent(1), row.lent(2), row.out(3), row.out(4), row.out(5))),
+            #[cfg(feature = "deploy")]
+            Call::Deploy => Some(raw::deploy(row.lent(0), row.lent(1), row.out(2), row.out(3), row.out(4), row.out(5))),
             #[allow(unreachable_patterns)]
             _ => None,
         }

@@ -1,6 +1,6 @@
 //! One comparison: every call goes to the library and to the independent program, and what comes back is held against
 //! each other; the calls are counted by family.
-use crate::call::{independently, Call, Expected, Request};
+use crate::call::{independently, Call, Expected, Request, Slice};
 use crate::peer::Peer;
 use crate::random::Random;
 use crate::report::{self, Said};
@@ -28,8 +28,8 @@ pub struct Family {
     pub took: Duration,
 }
 
-/// A refusal: call, code and operand.
-pub type Refusal = (Call, u64, u64);
+/// A refusal: call, code and operand; and from deploy which board it is of, from 1, or 0 for the whole.
+pub type Refusal = (Call, u64, u64, usize);
 
 pub struct Run {
     peer: Box<dyn Peer>,
@@ -95,13 +95,18 @@ impl Run {
     }
 
     fn count(&mut self, request: &Request, said: &Said) {
-        let answer = said.what.as_ref().map_or([0; 4], |reply| reply.answer);
+        let Ok(reply) = &said.what else { return };
+        let answer = reply.answer;
         self.made += 1;
         let family = self.families.last_mut().expect("a family is open");
         family.calls[request.call as usize] += 1;
         family.accepted += (answer[0] == 0) as u64;
         if answer[0] != 0 {
-            self.refusals.insert((request.call, answer[0], answer[1]));
+            self.refusals.insert((request.call, answer[0], answer[1], 0));
+        } else if let (Call::Deploy, [_, _, Slice::Words(boards), ..]) = (request.call, &reply.slices[..]) {
+            let boards = boards.chunks_exact(4).take(answer[3] as usize).zip(1..);
+            let refused = boards.filter(|(told, _)| told[0] != 0);
+            self.refusals.extend(refused.map(|(told, board)| (request.call, told[0], told[1], board)));
         }
     }
 
@@ -118,13 +123,16 @@ impl Run {
         }
     }
 
-    /// Prints what was compared. An error names refusals of RULES 5.3 and 12.4 that no call was given.
+    /// Prints what was compared. An error names refusals of RULES 5.3, 12.4 and 15.3 that no call was given.
     pub fn report(&mut self) -> Result<(), String> {
         self.close();
         report::table(&self.families);
         let missing: Vec<String> = refusals()
             .filter(|refusal| self.has(refusal.0) && !self.refusals.contains(refusal))
-            .map(|(call, code, operand)| format!("{} {code} operand {operand}", call.name()))
+            .map(|(call, code, operand, board)| {
+                let of = if board > 0 { format!(" of board {board}") } else { String::new() };
+                format!("{} {code} operand {operand}{of}", call.name())
+            })
             .collect();
         if !missing.is_empty() {
             return Err(format!("no call was refused with: {}", missing.join(", ")));
@@ -134,19 +142,23 @@ impl Run {
     }
 }
 
-/// Every refusal that RULES 5.3 and 12.4 have.
+/// Every refusal that RULES 5.3, 12.4 and 15.3 have; those of a board for each of the 64 boards.
 fn refusals() -> impl Iterator<Item = Refusal> {
-    let one = |call: Call, codes: &'static [u64]| codes.iter().map(move |&code| (call, code, 1));
-    let lists = |call: Call, n: u64| (1..=n).flat_map(move |operand| [(call, 2, operand), (call, 3, operand)]);
+    let one = |call: Call, codes: &'static [u64]| codes.iter().map(move |&code| (call, code, 1, 0));
+    let none = |call: Call, codes: &'static [u64]| codes.iter().map(move |&code| (call, code, 0, 0));
+    let lists = |call: Call, n: u64| (1..=n).flat_map(move |operand| [(call, 2, operand, 0), (call, 3, operand, 0)]);
+    let board = |board: usize| [1, 2, 3, 6, 7].map(|code| (Call::Deploy, code, 1, board));
     one(Call::Split, &[1, 2, 3, 6, 7])
         .chain(lists(Call::Multiply, 2))
-        .chain([4, 5, 6].map(|code| (Call::Multiply, code, 0)))
+        .chain(none(Call::Multiply, &[4, 5, 6]))
         .chain(lists(Call::SameProducts, 4))
         .chain(one(Call::Read, &[2, 3, 6, 8, 9, 10, 11, 12, 13]))
         .chain(one(Call::Write, &[2, 3, 6]))
         .chain(one(Call::ReadText, &[2, 6, 14, 15]))
         .chain(one(Call::WriteText, &[2, 3, 5, 6]))
-        .chain([2, 10, 12].map(|code| (Call::Audit, code, 0)))
+        .chain(none(Call::Audit, &[2, 10, 12]))
         .chain(lists(Call::Audit, 65))
         .chain(one(Call::Audit, &[1, 6, 7]))
+        .chain(none(Call::Deploy, &[2, 6, 10, 12]))
+        .chain((1..=64).flat_map(board))
 }

@@ -111,6 +111,28 @@ mod tests {
         assert_eq!(defined("#define AB 3\n", "A"), None);
     }
 
+    /// Every board of what deploy is measured on has parts: a list in order, with room for it.
+    #[test]
+    fn boards_are_lists() {
+        let random = &mut Random::new(4);
+        let structured =
+            (0..200).map(|_| deep::structured(Call::Deploy, &[(); deep::GENES].map(|()| random.word()))).collect();
+        for input in [deep::fixed(Call::Deploy, &mut Random::new(5)), structured].concat() {
+            let [Slice::Words(words), Slice::Words(lengths), lent @ ..] = &input.request.slices[..] else { panic!() };
+            let mut rest = &words[..];
+            for &length in lengths {
+                let (list, behind) = rest.split_at(length as usize);
+                assert!((1..=1024).contains(&list.len()) && list.windows(2).all(|two| two[0] < two[1]), "{list:?}");
+                assert!(lent[3].len() >= 4 * list.len());
+                rest = behind;
+            }
+            assert!(rest.is_empty());
+            let boards = lengths.len();
+            let room = [4 * boards, words.len() + 64 * boards, 64 * boards];
+            assert_eq!(room, [0, 1, 2].map(|i: usize| lent[i].len()));
+        }
+    }
+
     /// Lists in order, not too long, and for multiply without a common variable.
     #[test]
     fn structured_inputs_are_lists() {

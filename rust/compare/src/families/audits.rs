@@ -89,7 +89,7 @@ fn asked(run: &mut Run, request: Request, yes: bool, parts: &[Vec<u64>], both: b
     run.check(request, if both { Oracle::Both(expected) } else { Oracle::Known(expected) });
 }
 
-fn whole(parts: &[Vec<u64>]) -> Vec<u64> {
+pub(super) fn whole(parts: &[Vec<u64>]) -> Vec<u64> {
     parts.iter().fold(vec![0], |whole, part| product(&whole, part))
 }
 
@@ -139,7 +139,7 @@ fn examples(run: &mut Run) {
 }
 
 /// All lists over so many variables, zero the first.
-fn lists_over(variables: u32) -> Vec<Vec<u64>> {
+pub(super) fn lists_over(variables: u32) -> Vec<Vec<u64>> {
     let terms = 1u64 << variables;
     (0..1u64 << terms).map(|chosen| (0..terms).filter(|t| chosen >> t & 1 == 1).collect()).collect()
 }
@@ -170,7 +170,7 @@ fn three_variables(run: &mut Run) {
 }
 
 /// Parts that are known not to split, of many forms and sizes.
-fn shapes() -> Vec<Vec<Vec<u64>>> {
+pub(super) fn shapes() -> Vec<Vec<Vec<u64>>> {
     let singles: Vec<Vec<u64>> = (0..64).map(|i| vec![1 << i]).collect();
     let edges = |from: usize| (from..from + 10).map(|i| vec![0, 1 << i]).collect::<Vec<_>>();
     let all: Vec<u64> = [0].into_iter().chain((0..64).map(|i| 1 << i)).collect();

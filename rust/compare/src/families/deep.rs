@@ -1,9 +1,10 @@
 //! Inputs on which the calls go deep, for the measurement of the stack: fixed ones, and any number made of factors.
-use super::{audit_room, block_of, full_text, product, text_bytes, text_of};
+use super::{audit_room, block_of, deploy_room, full_text, joined, product, text_bytes, text_of};
 use crate::call::{Call, Request};
 use crate::random::Random;
 
 /// An input and what it is.
+#[derive(Clone)]
 pub struct Deep {
     pub name: String,
     pub request: Request,
@@ -23,6 +24,11 @@ fn request(call: Call, lists: &[&[u64]]) -> Request {
         (Call::Audit, [f, given @ ..]) => {
             let lengths: Vec<u64> = given.iter().map(|list| list.len() as u64).collect();
             Request::audit(f, &given.concat(), &lengths, audit_room(f.len()).map(|words| vec![7; words]))
+        }
+        (Call::Deploy, boards) => {
+            let boards: Vec<Vec<u64>> = boards.iter().map(|board| board.to_vec()).collect();
+            let (words, lengths) = joined(&boards);
+            Request::deploy(&words, &lengths, deploy_room(&boards).map(|words| vec![7; words]))
         }
         _ => panic!("lists that {} does not take", call.name()),
     }
@@ -93,6 +99,7 @@ pub fn fixed(call: Call, random: &mut Random) -> Vec<Deep> {
         Call::Multiply => fixed_multiply(random),
         Call::Split => fixed_split(random).into_iter().map(|(name, f)| named(call, &name, &[&f])).collect(),
         Call::Audit => fixed_audit(random),
+        Call::Deploy => fixed_deploy(random),
         Call::SameProducts => fixed_same_products(random),
         Call::Read | Call::Write => fixed_block(call, random),
         Call::ReadText | Call::WriteText => fixed_text(call, random),
@@ -178,6 +185,27 @@ fn fixed_audit(random: &mut Random) -> Vec<Deep> {
     board("54 constant variables and a cube, as 64 parts", &constants, &edges);
     board("{0, .., 1023}, held against 64 times itself", &cube, &vec![cube.clone(); 64]);
     board("1, held against nothing", &[0], &[]);
+    found
+}
+
+/// What split goes deep on as the one board, and as the last behind others; as many boards as there can be, of many terms and of
+/// many parts.
+fn fixed_deploy(random: &mut Random) -> Vec<Deep> {
+    let cube: Vec<u64> = (0..1024).collect();
+    let constants = product(&[u64::MAX << 10], &cube);
+    let mut found = Vec::new();
+    for (name, f) in fixed_split(random) {
+        found.push(named(Call::Deploy, &name, &[&f]));
+        found.push(named(Call::Deploy, &format!("{name}, behind two others"), &[&[u64::MAX], &[0], &f]));
+    }
+    let mut boards = |name: &str, lists: &[&[u64]]| found.push(named(Call::Deploy, name, lists));
+    boards("64 times {0, .., 1023}", &[&cube[..]; 64]);
+    boards("64 times 54 constant variables and a cube", &[&constants[..]; 64]);
+    boards("64 times 64 constant variables", &[&[u64::MAX][..]; 64]);
+    boards("64 times one", &[&[0][..]; 64]);
+    boards("no boards", &[]);
+    let staircase = product(&sum(EVEN, 32), &one_and_sum(!EVEN, 32));
+    boards("63 times one and a staircase", &[vec![&[0][..]; 63], vec![&staircase]].concat());
     found
 }
 
@@ -314,7 +342,7 @@ pub fn structured(call: Call, genes: &Genes) -> Deep {
     let mut lists = match call {
         Call::Multiply => vec![p, q],
         Call::SameProducts => crossed(&p, &q, &r, &s).to_vec(),
-        Call::Audit => vec![product(&p, &q), p, q],
+        Call::Audit | Call::Deploy => vec![product(&p, &q), p, q],
         _ => vec![product(&p, &q)],
     };
     // multiply's lists must keep their variables apart

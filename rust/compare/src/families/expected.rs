@@ -1,6 +1,6 @@
-//! The refusal that the order of checks (RULES 5.3, 12.4) asks for, read off the slices of a call.
+//! The refusal that the order of checks (RULES 5.3, 12.4, 15.3) asks for, read off the slices of a call.
 use super::{block_bytes, text_bytes};
-use crate::call::{Call, Expected, Request, Slice};
+use crate::call::{Board, Call, Expected, Request, Slice};
 use crate::run::{Oracle, Run};
 
 /// Code, operand, place.
@@ -33,6 +33,7 @@ pub fn refusal(request: &Request) -> Option<Refusal> {
         (Call::Audit, [Words(t), Words(g), Words(n), Words(p), Words(l), Words(w)]) => {
             audit(t, g, n, [p.len(), l.len(), w.len()])
         }
+        (Call::Deploy, [Words(b), Words(n), Words(a), ..]) => deployment(b, n, a.len()).err(),
         _ => None,
     }
 }
@@ -79,25 +80,67 @@ fn multiply(a: &[u64], b: &[u64], room: usize) -> Option<Refusal> {
         .or_else(|| (room < need).then_some([6, 0, 0]))
 }
 
-/// One given list after another is taken off what is lent: there is too little left for one, or something is left at the end.
-fn audit(terms: &[u64], given: &[u64], lengths: &[u64], room: [usize; 3]) -> Option<Refusal> {
+/// One list after another is taken off what is lent: there is too little left for one, or something is left at the end.
+fn cut<'a>(lent: &'a [u64], lengths: &[u64]) -> Result<Vec<&'a [u64]>, Refusal> {
     if lengths.len() > 64 {
-        return Some([2, 0, 0]);
+        return Err([2, 0, 0]);
     }
-    let (mut lists, mut left) = (vec![terms], given);
+    let (mut lists, mut left) = (Vec::new(), lent);
     for &length in lengths {
         if length > left.len() as u64 {
-            return Some([10, 0, 0]);
+            return Err([10, 0, 0]);
         }
         let (list, behind) = left.split_at(length as usize);
         lists.push(list);
         left = behind;
     }
-    if !left.is_empty() {
-        return Some([12, 0, 0]);
+    if left.is_empty() {
+        Ok(lists)
+    } else {
+        Err([12, 0, 0])
     }
+}
+
+fn audit(terms: &[u64], given: &[u64], lengths: &[u64], room: [usize; 3]) -> Option<Refusal> {
+    let lists = match cut(given, lengths) {
+        Ok(given) => [&[terms], &given[..]].concat(),
+        Err(refusal) => return Some(refusal),
+    };
     long(&lists)
         .or_else(|| terms.is_empty().then_some([1, 1, 0]))
         .or_else(|| unordered(&lists))
         .or_else(|| split(terms, room))
+}
+
+/// The boards of a deployment that is not refused as a whole.
+fn deployment<'a>(words: &'a [u64], lengths: &[u64], answers: usize) -> Result<Vec<&'a [u64]>, Refusal> {
+    let boards = cut(words, lengths)?;
+    if answers < 4 * boards.len() {
+        return Err([6, 0, 0]);
+    }
+    Ok(boards)
+}
+
+/// What a deployment must give: of each board the refusal of its split in what is left, or the parts that this says of the board
+/// of that index and list.
+pub fn deployed(request: &Request, mut parts: impl FnMut(usize, &[u64]) -> Vec<Vec<u64>>) -> Expected {
+    let [Slice::Words(words), Slice::Words(lengths), lent @ ..] = &request.slices[..] else { panic!("no deployment") };
+    let [answers, mut part_terms, mut part_lengths, work] = [0, 1, 2, 3].map(|i: usize| lent[i].len());
+    let boards = match deployment(words, lengths, answers) {
+        Ok(boards) => boards,
+        Err(refusal) => return Expected::Refused(refusal),
+    };
+    let mut told: Vec<Board> = Vec::new();
+    for (i, board) in boards.into_iter().enumerate() {
+        told.push(match split(board, [part_terms, part_lengths, work]) {
+            Some(refusal) => Err(refusal),
+            None => {
+                let parts = parts(i, board);
+                part_terms -= parts.iter().map(Vec::len).sum::<usize>();
+                part_lengths -= parts.len();
+                Ok(parts)
+            }
+        });
+    }
+    Expected::Deployed(told)
 }

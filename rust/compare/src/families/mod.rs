@@ -4,6 +4,8 @@ pub mod audits;
 pub mod blocks;
 pub mod damages;
 pub mod deep;
+pub mod deploy_refusals;
+pub mod deployments;
 pub mod examples;
 mod expected;
 pub mod kinds;
@@ -40,6 +42,14 @@ pub fn audit_request(random: &mut Random, approved: &[u64], given: &[Vec<u64>], 
 /// The words that an audit of so many terms needs.
 pub fn audit_room(t: usize) -> [usize; 3] {
     [t + 64, 64, 4 * t]
+}
+
+/// The words with which a deployment of these boards has room for all: answers, part terms, part lengths, work. Boards that are
+/// too long need none.
+pub fn deploy_room(boards: &[Vec<u64>]) -> [usize; 4] {
+    let lengths = || boards.iter().map(Vec::len).filter(|&t| t <= 1024);
+    let (words, longest) = (lengths().sum::<usize>(), lengths().max().unwrap_or(0));
+    [4 * boards.len(), words + 64 * boards.len(), 64 * boards.len(), 4 * longest]
 }
 
 /// Lists one behind the other, and their lengths.

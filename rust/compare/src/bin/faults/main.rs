@@ -9,6 +9,8 @@ mod answer;
 mod audit;
 mod audited;
 mod blocks;
+mod deploy;
+mod deployed;
 mod parts;
 mod printed;
 mod products;
@@ -39,7 +41,7 @@ pub const fn fault(
     Fault { name, calls, file, old, new }
 }
 
-const TABLES: [&[Fault]; 14] = [
+const TABLES: [&[Fault]; 19] = [
     answer::FAULTS,
     parts::FAULTS,
     products::MULTIPLY,
@@ -54,6 +56,11 @@ const TABLES: [&[Fault]; 14] = [
     audited::SAYS,
     audited::PARTS,
     audited::SHARED,
+    deploy::WHOLE,
+    deploy::ANSWERS,
+    deployed::BOARDS,
+    deployed::LEFT,
+    deployed::SHARED,
 ];
 
 /// A comparison that takes longer than this has not seen the fault.
