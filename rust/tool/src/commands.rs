@@ -1,12 +1,13 @@
 //! What each command does: it reads, asks the library, and prints.
 use crate::audit::Audited;
-use crate::equation::{equation, inputs, the_inputs};
+use crate::equation::{inputs, the_inputs};
 use crate::help;
 use crate::input::{self, Source};
 use crate::names;
 use crate::output;
 use crate::parts;
 use crate::report::{page, About};
+use crate::split;
 use crate::staged::{self, Staged};
 use crate::stop::{trouble, Stop};
 use crate::table::{COMMANDS, OUTPUT, REPORT};
@@ -18,28 +19,12 @@ use std::env;
 use std::ffi::{OsStr, OsString};
 use std::io;
 
-/// The printed split (RULES 6): also a refusal is printed.
+/// The printed split of one equation, or of several boards.
 pub fn split(call: &Call) -> Result<u8, Stop> {
-    let source = source(call)?;
-    let told = input::equation(&source).and_then(|list| parts_of(&source, &list));
-    match &told {
-        Ok(text) => output::standard(text.as_bytes())?,
-        Err(Stop::Refused(refused)) => {
-            if let Some(refusal) = refused.refusal {
-                let (code, operand, place) = (refusal.code(), refusal.operand(), refusal.place());
-                output::standard(format!("refused {code} {operand} {place}\n").as_bytes())?;
-            }
-        }
-        Err(Stop::Trouble(_)) => {}
+    match sources(call).as_slice() {
+        [] | [_] => split::one(&source(call)?),
+        several => split::boards(several),
     }
-    told.map(|_| 0)
-}
-
-fn parts_of(source: &Source, list: &[u64]) -> Result<String, Stop> {
-    let zero = "the equation is constantly 0, and has no parts";
-    let parts = apfelruder::split(list).map_err(|refusal| refused(&source.name(), refusal, zero))?;
-    let lines: String = parts.iter().map(|part| equation(part) + "\n").collect();
-    Ok(format!("parts {}\n{lines}", parts.len()))
 }
 
 /// An equation as its block.
@@ -67,7 +52,7 @@ fn text(name: &str, list: &[u64]) -> Result<Vec<u8>, Stop> {
 
 /// The product, one equation after another.
 pub fn multiply(call: &Call) -> Result<u8, Stop> {
-    let factors: Vec<_> = call.files.iter().map(|word| Source::of(word)).collect();
+    let factors = sources(call);
     let lists = factors.iter().map(input::equation).collect::<Result<Vec<_>, _>>()?;
     let mut product = vec![0];
     for (at, list) in lists.iter().enumerate() {
@@ -99,7 +84,7 @@ fn unmultiplied(factors: &[Source], lists: &[Vec<u64>], at: usize, product: &[u6
 
 /// Whether A times D is B times C.
 pub fn same(call: &Call) -> Result<u8, Stop> {
-    let lists = call.files.iter().map(|word| input::equation(&Source::of(word))).collect::<Result<Vec<_>, _>>()?;
+    let lists = sources(call).iter().map(input::equation).collect::<Result<Vec<_>, _>>()?;
     let [a, d, b, c] = lists.as_slice() else { return wrong(Some(call.command), "four files are needed") };
     let yes =
         apfelruder::same_products(a, d, b, c).map_err(|refusal| refused("same", refusal, &refusal.to_string()))?;
@@ -109,7 +94,7 @@ pub fn same(call: &Call) -> Result<u8, Stop> {
 
 /// Whether the given parts are those of the approved equation; with what is wrong, and the page.
 pub fn audit(call: &Call) -> Result<u8, Stop> {
-    let sources: Vec<_> = call.files.iter().map(|word| Source::of(word)).collect();
+    let sources = sources(call);
     let [approved, given @ ..] = sources.as_slice() else {
         return wrong(Some(call.command), "name the approved equation");
     };
@@ -195,6 +180,11 @@ pub fn help(call: &Call) -> Result<u8, Stop> {
     };
     output::standard(help::help(command).as_bytes())?;
     Ok(0)
+}
+
+/// All that is named.
+fn sources(call: &Call) -> Vec<Source> {
+    call.files.iter().map(|word| Source::of(word)).collect()
 }
 
 /// The one file, or standard input, which must not be a terminal if nobody named it.

@@ -4,7 +4,7 @@ use crate::table::{Command, Opt, COMMANDS, HELP, OUTPUT, REPORT, VERSION};
 /// The tool's own version.
 pub const TOOL: &str = env!("CARGO_PKG_VERSION");
 /// That of the library's page, and where it stands.
-pub const LIBRARY: &str = "1.3 (include/apfelruder.h)";
+pub const LIBRARY: &str = "1.4 (include/apfelruder.h)";
 /// The kit that proved the library. This and the next two are told by bin/apfelruder when it builds the tool.
 pub const KIT: &str = or_unknown(option_env!("APFELRUDER_KIT"));
 /// The fingerprint of the sources.
@@ -53,7 +53,7 @@ fn of_command(command: &Command) -> Vec<String> {
         FILES.to_string(),
         format!("options:\n{options}"),
         STATUS.to_string(),
-        format!("example: {}\n", command.example),
+        examples(command.examples),
     ]
 }
 
@@ -61,7 +61,7 @@ fn of_tool() -> Vec<String> {
     let commands = rows(&COMMANDS, |one| (format!("{} {}", one.name, one.files), one.line.into()));
     let options = rows(&[OUTPUT, REPORT, HELP, VERSION], |option| (option.names(), of_all(option)));
     let first = COMMANDS.iter().filter(|one| ["split", "audit"].contains(&one.name));
-    let examples: String = first.map(|one| format!("  {}\n", one.example)).collect();
+    let shown: Vec<&str> = first.flat_map(|one| one.examples).copied().collect();
     vec![
         "usage: apfelruder COMMAND FILE..\n".to_string(),
         ABOUT.to_string(),
@@ -69,7 +69,7 @@ fn of_tool() -> Vec<String> {
         FILES.to_string(),
         format!("options:\n{options}"),
         STATUS.to_string(),
-        format!("examples:\n{examples}"),
+        examples(&shown),
     ]
 }
 
@@ -77,6 +77,14 @@ fn of_tool() -> Vec<String> {
 fn usage(command: &Command) -> String {
     let options: String = command.options.iter().map(|option| format!(" [{} FILE]", option.called())).collect();
     format!("apfelruder {} {}{options}", command.name, command.files)
+}
+
+/// How something is used: one line, or a line for each.
+fn examples(lines: &[&str]) -> String {
+    match lines {
+        [line] => format!("example: {line}\n"),
+        _ => format!("examples:\n{}", lines.iter().map(|line| format!("  {line}\n")).collect::<String>()),
+    }
 }
 
 /// What an option does, and behind which commands it stands.

@@ -18,6 +18,7 @@ mod parts;
 #[cfg(test)]
 mod random;
 mod report;
+mod split;
 mod staged;
 mod stop;
 mod table;
@@ -25,8 +26,8 @@ mod usage;
 mod when;
 mod words;
 
+use output::say;
 use std::env;
-use std::io::{self, Write};
 use std::panic;
 use std::process::ExitCode;
 use stop::Stop;
@@ -57,9 +58,4 @@ fn answer(asked: Asked) -> Result<u8, Stop> {
         Asked::Version => output::standard(help::version().as_bytes())?,
     }
     Ok(0)
-}
-
-/// Says something on standard error. Where that is closed or full, nobody can be told.
-fn say(words: &str) {
-    let _ = io::stderr().write_all(format!("apfelruder: {words}\n").as_bytes());
 }

@@ -7,7 +7,7 @@ use std::os::unix::ffi::OsStrExt;
 /// a shell's word.
 pub fn shown(name: &OsStr) -> String {
     match name.to_str() {
-        Some(text) if !text.is_empty() && !text.contains(char::is_control) => text.to_string(),
+        Some(text) if !text.is_empty() && !text.contains(unseen) => text.to_string(),
         _ => quoted(name),
     }
 }
@@ -19,7 +19,7 @@ pub fn quoted(word: &OsStr) -> String {
         Some(text) if text.starts_with("--") && text.bytes().all(|byte| byte == b'=' || plain(byte)) => {
             text.to_string()
         }
-        Some(text) if !text.contains(char::is_control) => format!("'{}'", text.replace('\'', r"'\''")),
+        Some(text) if !text.contains(unseen) => format!("'{}'", text.replace('\'', r"'\''")),
         _ => escaped(word.as_bytes()),
     }
 }
@@ -32,6 +32,12 @@ pub fn command<'a>(words: impl IntoIterator<Item = &'a OsStr>) -> String {
 /// A sign that means itself to a shell, wherever it stands in a word.
 fn plain(byte: u8) -> bool {
     byte.is_ascii_alphanumeric() || b"_./:@%+,-".contains(&byte)
+}
+
+/// A sign that is not shown as itself: a control, one that ends a line, turns the direction of what follows, or has no width.
+fn unseen(sign: char) -> bool {
+    let shifts = ['\u{200b}'..='\u{200f}', '\u{2028}'..='\u{202e}', '\u{2060}'..='\u{206f}', '\u{feff}'..='\u{feff}'];
+    sign.is_control() || shifts.iter().any(|signs| signs.contains(&sign))
 }
 
 /// The bytes in the form with escapes that bash, zsh and ksh know.
@@ -77,6 +83,9 @@ mod tests {
         assert_eq!(shown(word(b"two\nlines")), r"$'two\nlines'");
         assert_eq!(shown(word(b"\x1b[31mred")), r"$'\033[31mred'");
         assert_eq!(shown(word(b"\xff")), r"$'\377'");
+        assert_eq!(shown(OsStr::new("a\u{2028}b: parts 0")), r"$'a\342\200\250b: parts 0'");
+        assert_eq!(shown(OsStr::new("\u{202e}txt.a")), r"$'\342\200\256txt.a'");
+        assert_eq!(quoted(OsStr::new("\u{feff}a b")), r"$'\357\273\277a b'");
         assert_eq!(shown(word(b"")), "''");
     }
 

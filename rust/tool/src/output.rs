@@ -1,4 +1,4 @@
-//! Standard output.
+//! Standard output and standard error.
 use crate::stop::{is_closed, trouble, why, Stop};
 use std::fs::File;
 use std::io::{self, IsTerminal, Write};
@@ -20,6 +20,11 @@ pub fn standard(bytes: &[u8]) -> Result<(), Stop> {
         _ if is_closed(&error) => trouble("standard output is closed"),
         _ => trouble(format!("standard output cannot be written to: {}", why(&error))),
     })
+}
+
+/// Says something on standard error. Where that is closed or full, nobody can be told.
+pub fn say(words: &str) {
+    let _ = io::stderr().write_all(format!("apfelruder: {words}\n").as_bytes());
 }
 
 /// Whether a person would see the bytes.

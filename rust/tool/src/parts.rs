@@ -59,6 +59,10 @@ fn lines(source: &Source, bytes: &[u8], given: &mut Vec<Part>) -> Result<(), Sto
 /// Whether the first line is that of a printed split, `parts N`, and no part itself. It must fit what follows.
 fn first_line(lines: &[&[u8]]) -> Result<bool, String> {
     let Some((first, rest)) = lines.split_first() else { return Ok(false) };
+    if names_a_board(first) {
+        return Err("its first line names a board: this is what split prints of several; give the parts of one alone"
+            .to_string());
+    }
     if first.starts_with(b"refused") {
         return Err("its first line says refused: what made it had no parts to give".to_string());
     }
@@ -80,6 +84,14 @@ fn first_line(lines: &[&[u8]]) -> Result<bool, String> {
         number.iter().take(20).map(|&byte| if byte.is_ascii_graphic() { char::from(byte) } else { '?' }).collect();
     let (stand, lines) = if here == 1 { ("stands", "line") } else { ("stand", "lines") };
     Err(format!("its first line says parts {number}, and {here} {lines} {stand} behind it"))
+}
+
+/// Whether it is a line `NAME: parts K` or `NAME: refused ..`, as split prints them of several boards. No equation has such
+/// a line, whatever the name.
+fn names_a_board(line: &[u8]) -> bool {
+    let line = String::from_utf8_lossy(line);
+    let behind = line.rsplit_once(": ").map_or("", |(_, behind)| behind);
+    behind.starts_with("parts ") || behind.starts_with("refused ")
 }
 
 #[cfg(test)]
@@ -128,7 +140,7 @@ mod tests {
         assert_eq!(told(b"x0\n"), Ok(false));
         assert_eq!(told(b"parts 1\nx0\n"), Ok(true));
         assert_eq!(told(b"parts 1\nx0"), Ok(true));
-        let cases: [(&[u8], &str); 8] = [
+        let cases: [(&[u8], &str); 12] = [
             (b"parts 2\nx0\n", "its first line says parts 2, and 1 line stands behind it"),
             (b"parts 1\n", "its first line says parts 1, and 0 lines stand behind it"),
             (b"parts 01\nx0\n", "its first line says parts 01, and 1 line stands behind it"),
@@ -137,6 +149,10 @@ mod tests {
             (b"parts2\nx0\nx1\n", "its first line begins with parts, and is not"),
             (b"parts 1\r\nx0\r\n", "its first line ends with a carriage return"),
             (b"refused 1 1 0\n", "its first line says refused"),
+            (b"a.txt: parts 1\nx0\n", "its first line names a board"),
+            (b"x0: refused 1 1 0\nb: parts 1\nx0\n", "its first line names a board"),
+            (b"parts 2: parts 1\nx0\nb: parts 0\n", "its first line names a board"),
+            (b"refused: parts 0\n", "its first line names a board"),
         ];
         for (text, words) in cases {
             assert!(told(text).expect_err("refused").starts_with(words), "{:?}", told(text));

@@ -24,6 +24,15 @@ pub fn trouble<T>(words: impl Into<String>) -> Result<T, Stop> {
     Err(Stop::Trouble(words.into()))
 }
 
+/// A refusal as one of the answers that a command can give. Trouble still ends it.
+pub fn answered<T>(told: Result<T, Stop>) -> Result<Result<T, Refused>, Stop> {
+    match told {
+        Ok(answer) => Ok(Ok(answer)),
+        Err(Stop::Refused(refused)) => Ok(Err(refused)),
+        Err(Stop::Trouble(words)) => trouble(words),
+    }
+}
+
 /// Whether the file is not open, or not for what was asked of it.
 pub fn is_closed(error: &std::io::Error) -> bool {
     const NOT_OPEN: i32 = 9;

@@ -2,6 +2,7 @@
 use crate::commands;
 use crate::stop::Stop;
 use crate::usage::Call;
+use apfelruder::MAX_BOARDS;
 
 /// An option.
 #[derive(Debug, PartialEq, Eq)]
@@ -48,8 +49,8 @@ pub struct Command {
     pub line: &'static str,
     /// What it does, in full.
     pub words: &'static str,
-    /// How it is used.
-    pub example: &'static str,
+    /// How it is used, in one line or several.
+    pub examples: &'static [&'static str],
     /// Does it; gives the status.
     pub run: fn(&Call) -> Result<u8, Stop>,
 }
@@ -58,17 +59,26 @@ pub struct Command {
 pub const COMMANDS: [Command; 7] = [
     Command {
         name: "split",
-        files: "[FILE]",
-        many: (0, 1),
-        takes: "split takes one file at most",
+        files: "[FILE..]",
+        many: (0, MAX_BOARDS),
+        takes: "split takes 64 files at most",
         options: &[],
-        line: "prints the parts of an equation",
+        line: "prints the parts of an equation, or of each of several",
         words: "\
 Prints `parts K`, then the K parts of the equation, a line for each: they share
 no input, their product is the equation, and none of them can be split again.
 A refusal is printed as `refused CODE OPERAND PLACE`, and explained on standard
-error.",
-        example: "printf 'x0*x2+x1*x2+x0+x1\\n' | apfelruder split     # x0+x1 and 1+x2",
+error.
+
+Up to 64 files are split in one call. With two or more, each is a board, and for
+each in turn it prints `NAME: parts K` and the K parts, a line for each, or
+`NAME: refused CODE OPERAND PLACE`. A board that is refused does not stop the
+others; the status is 1 then. A file that cannot be read does: nothing is
+printed.",
+        examples: &[
+            "printf 'x0*x2+x1*x2+x0+x1\\n' | apfelruder split     # x0+x1 and 1+x2",
+            "apfelruder split board1.txt board2.txt board3.block",
+        ],
         run: commands::split,
     },
     Command {
@@ -82,7 +92,7 @@ error.",
 Writes the equation as its block of bytes, which loaders take. One equation has
 one block. A block is checked, and written as it is. With -o, FILE is written
 whole or not at all; - is standard output.",
-        example: "apfelruder pack approved.txt -o approved.block",
+        examples: &["apfelruder pack approved.txt -o approved.block"],
         run: commands::pack,
     },
     Command {
@@ -96,7 +106,7 @@ whole or not at all; - is standard output.",
 Writes the equation as text, all in ascending order; equal terms have cancelled.
 One equation has one such text. With -o, FILE is written whole or not at all; -
 is standard output.",
-        example: "printf 'x1+x3*x0+1+x1\\n' | apfelruder unpack         # 1+x0*x3",
+        examples: &["printf 'x1+x3*x0+1+x1\\n' | apfelruder unpack         # 1+x0*x3"],
         run: commands::unpack,
     },
     Command {
@@ -110,7 +120,7 @@ is standard output.",
 Writes the product of equations that share no input, as text. A product has at
 most 1,024 terms. With -o, FILE is written whole or not at all; - is standard
 output.",
-        example: "apfelruder multiply part1.txt part2.txt part3.txt",
+        examples: &["apfelruder multiply part1.txt part2.txt part3.txt"],
         run: commands::multiply,
     },
     Command {
@@ -124,7 +134,7 @@ output.",
 Prints yes if A times D is B times C, else no. Mind the order: A, D, B, C. The
 four equations may share inputs. The products are ordinary ones: x0 times x0 is
 x0 squared, which is not x0.",
-        example: "apfelruder same a.txt d.txt b.txt c.txt",
+        examples: &["apfelruder same a.txt d.txt b.txt c.txt"],
         run: commands::same,
     },
     Command {
@@ -148,7 +158,7 @@ line is over 65,536 bytes; such a part has to be given as a block. The constant
 
 With --report, FILE becomes a page in HTML to hand to the auditor. It is written
 whole or not at all.",
-        example: "apfelruder audit approved.txt loaded.txt --report audit.html",
+        examples: &["apfelruder audit approved.txt loaded.txt --report audit.html"],
         run: commands::audit,
     },
     Command {
@@ -159,7 +169,7 @@ whole or not at all.",
         options: &[],
         line: "prints this, or the help of a command",
         words: "Prints the help of a command, or of the tool.",
-        example: "apfelruder help audit",
+        examples: &["apfelruder help audit"],
         run: commands::help,
     },
 ];

@@ -165,7 +165,15 @@ mod tests {
     }
 
     #[test]
+    fn split_takes_a_whole_ship() {
+        for many in [0, 1, 2, 64] {
+            assert_eq!(call(&format!("split{}", " a".repeat(many))).files.len(), many);
+        }
+    }
+
+    #[test]
     fn wrong_usage_ends_with_the_help_to_ask_for() {
+        let many = format!("split{}", " a".repeat(65));
         let lines = [
             ("", "name a command"),
             ("frob", "there is no command frob"),
@@ -180,7 +188,9 @@ mod tests {
             ("pack -o a -o b", "-o is given twice"),
             ("pack -oa --output=b", "-o is given twice"),
             ("audit a b --report", "--report needs a file"),
-            ("split a b", "split takes one file at most, and 2 are named"),
+            ("pack a b", "pack takes one file at most, and 2 are named"),
+            (&many, "split takes 64 files at most, and 65 are named"),
+            ("split a - b -", "standard input (-) can be read only once"),
             ("multiply a", "multiply takes two files or more, and 1 is named"),
             ("same a b c", "same takes four files"),
             ("same a b c d e", "same takes four files"),

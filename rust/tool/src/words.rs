@@ -57,9 +57,13 @@ impl Where<'_> {
 
 /// A refusal by a call, in these words.
 pub fn refused(name: &str, refusal: Refusal, words: &str) -> Stop {
-    let (code, operand, place) = (refusal.code(), refusal.operand(), refusal.place());
-    let line = format!("{name}: refused {code} {operand} {place} ({}): {words}", called(code));
+    let line = format!("{name}: {} ({}): {words}", numbers(refusal), called(refusal.code()));
     Stop::Refused(Refused { refusal: Some(refusal), lines: vec![line] })
+}
+
+/// A refusal in the library's numbers (RULES 6.3).
+pub fn numbers(refusal: Refusal) -> String {
+    format!("refused {} {} {}", refusal.code(), refusal.operand(), refusal.place())
 }
 
 /// A refusal by the tool, of a file of parts.

@@ -200,3 +200,39 @@ fn first_lines_that_do_not_fit() {
         assert_eq!(ended.err.lines().count(), 1, "{}", ended.err);
     }
 }
+
+/// What split prints of several boards is no file of parts, also not of the first or of a board that was refused, and whatever
+/// the names are.
+#[test]
+fn several_boards_are_no_file_of_parts() {
+    let printed = [
+        "approved.txt: parts 2\nx0+x1\n1+x2\nb.txt: parts 1\nx3\n",
+        "b.txt: refused 1 1 0\napproved.txt: parts 2\nx0+x1\n1+x2\n",
+        "x0+x1: parts 2\nx0+x1\n1+x2\nb.txt: parts 0\n",
+        "parts.txt: parts 2\nx0+x1\n1+x2\n1: parts 0\n",
+        "parts 4: parts 2\nx0+x1\n1+x2\nb.txt: parts 0\n",
+        "refused: parts 2\nx0+x1\n1+x2\nb.txt: parts 0\n",
+        "standard input: parts 2\nx0+x1\n1+x2\nb.txt: parts 0\n",
+        "$'\\377': parts 2\nx0+x1\n1+x2\nGr\u{fc}n: parts 0\n",
+    ];
+    for content in printed {
+        let words = "its first line names a board: this is what split prints of several; give the parts of one alone";
+        audit(STORY.1, content).is(1, b"", &format!("apfelruder: parts.txt: refused: {words}\n"));
+    }
+    // further down the caret stands under what no equation has
+    let ended = audit(STORY.1, "x0+x1\n1+x2\nb.txt: parts 1\nx3\n");
+    ended.is_refused_with("refused 14 1 0 (Sign): part 3, line 3 of parts.txt, column 1: ");
+    ended.caret("b.txt: parts 1", 0);
+    let ended = audit(STORY.1, "parts 4\nx0+x1\n1+x2\nx3: parts 1\nx3\n");
+    ended.is_refused_with("refused 14 1 2 (Sign): part 3, line 4 of parts.txt, column 3: ");
+    ended.caret("x3: parts 1", 2);
+    // the same as the tool prints it, and without the line that names the board
+    let room = Room::with(&[STORY, ("b.txt", "x3\n")]);
+    let split = room.run(&["split", "approved.txt", "b.txt"]);
+    split.gave(printed[0]);
+    let ended = room.run_on(&["audit", "approved.txt", "-"], &split.out);
+    ended.is_refused_with("standard input: refused: its first line names a board: ");
+    room.run_on(&["audit", "approved.txt", "-"], "x0+x1\n1+x2\n").gave(yes(4));
+    room.file("both.txt", &split.out);
+    room.run(&["audit", "both.txt", "b.txt"]).refused_in_words("both.txt", "14 1 0", "Sign");
+}

@@ -15,8 +15,11 @@ use std::process::{Command, Stdio};
 use std::thread;
 
 /// Every command, with a word FILE where a file is named that makes trouble.
-const READS: [&[&str]; 9] = [
+const READS: [&[&str]; 12] = [
     &["split", "FILE"],
+    &["split", "FILE", "a"],
+    &["split", "a", "FILE"],
+    &["split", "zero", "FILE", "a"],
     &["pack", "FILE"],
     &["unpack", "FILE"],
     &["multiply", "FILE", "a"],
@@ -28,8 +31,10 @@ const READS: [&[&str]; 9] = [
 ];
 
 /// Every command that prints, so that it prints something; `b` shares no input with `a`.
-const PRINTS: [&[&str]; 12] = [
+const PRINTS: [&[&str]; 14] = [
     &["split", "a"],
+    &["split", "a", "b"],
+    &["split", "a", "zero", "b"],
     &["pack", "a"],
     &["unpack", "a"],
     &["multiply", "a", "b"],
@@ -66,7 +71,7 @@ fn files_that_cannot_be_read() {
         }
     }
     let input = || File::open(room.path().join("folder")).expect("the folder opens");
-    for words in [&["split"][..], &["pack", "-"], &["audit", "-", "a"], &["audit", "a", "-"]] {
+    for words in [&["split"][..], &["split", "a", "-"], &["pack", "-"], &["audit", "-", "a"], &["audit", "a", "-"]] {
         ended(room.tool(words).stdin(input())).trouble(&["standard input"]);
     }
     assert_eq!(room.names(), ["a", "b", "folder", "zero"]);
@@ -98,6 +103,7 @@ fn no_permission() {
     };
     run(&["split", "a"]).gave("parts 1\nx0+x1\n");
     run(&["split", "secret"]).trouble(&["secret"]);
+    run(&["split", "a", "secret", "a"]).trouble(&["secret"]);
     run(&["audit", "a", "secret"]).trouble(&["secret"]);
     run(&["unpack", "a", "-o", "folder/new"]).trouble(&["folder/new"]);
     run(&["audit", "a", "a", "--report", "folder/new"]).troubled(&["folder/new"]);
@@ -153,11 +159,21 @@ fn a_pipe_that_is_closed_before_the_end() {
 #[test]
 fn standard_error_that_cannot_be_written() {
     let room = room();
-    for (words, status) in [(["split", "a"], 0), (["split", "zero"], 1), (["pack", "missing"], 2), (["splat", "a"], 2)]
-    {
+    let all: [(&[&str], i32); 6] = [
+        (&["split", "a"], 0),
+        (&["split", "zero"], 1),
+        (&["split", "a", "b"], 0),
+        (&["split", "a", "zero", "b"], 1),
+        (&["pack", "missing"], 2),
+        (&["splat", "a"], 2),
+    ];
+    for (words, status) in all {
         let full = File::options().write(true).open("/dev/full").expect("a full disk");
-        assert_eq!(ended(room.tool(&words).stderr(full)).status, Some(status), "{words:?}");
+        assert_eq!(ended(room.tool(words).stderr(full)).status, Some(status), "{words:?}");
     }
+    let full = File::options().write(true).open("/dev/full").expect("a full disk");
+    let told = ended(room.tool(&["split", "zero", "b"]).stderr(full));
+    assert_eq!(told.text(), "zero: refused 1 1 0\nb: parts 1\nx2\n");
 }
 
 /// A limit on the length of a file stands for a disk that is full after some bytes or at once.
@@ -257,7 +273,7 @@ fn a_gigabyte() {
         [(&b"\0"[..], "8 1 0", "Form"), (b"x", "2 1 0", "TooMany"), (b"\x10", "12 1 0", "Extra")]
     {
         room.gigabyte("long", first);
-        for words in READS {
+        for words in READS.into_iter().filter(|words| words[0] != "split" || words.len() == 2) {
             let ended = room.run(&naming(words, "long"));
             // what is no block is, among the parts, a file of parts, and longer than one may be
             let numbers = if words[0] == "audit" && words[1] != "FILE" && first == b"x" { "2 0 0" } else { numbers };
@@ -265,6 +281,10 @@ fn a_gigabyte() {
             let printed = if words[0] == "split" { format!("refused {numbers}\n") } else { String::new() };
             assert_eq!((ended.text(), ended.err.lines().count()), (printed.as_str(), 1), "{words:?}: {}", ended.err);
         }
+        let boards = room.run(&["split", "a", "long", "b"]);
+        boards.refused_in_words("long", numbers, word);
+        let printed = format!("a: parts 1\nx0+x1\nlong: refused {numbers}\nb: parts 1\nx2\n");
+        assert_eq!((boards.text(), boards.err.lines().count()), (printed.as_str(), 1), "{}", boards.err);
         let input = File::open(room.path().join("long")).expect("the file opens");
         ended(room.tool(&["pack"]).stdin(input)).refused("standard input", numbers, word);
     }
@@ -303,4 +323,22 @@ fn names_that_are_not_text() {
     room.run(&[OsStr::new("split"), broken]).trouble(&["two", "lines"]);
     room.file(broken, "0\n");
     assert_eq!(room.run(&[OsStr::new("split"), broken]).err.lines().count(), 1);
+    // so each board has the lines that it should have, and no name makes one more
+    let fake = OsStr::from_bytes(b"a: parts 1\nx0+x1\n\x1b[2Jb");
+    room.file(fake, "x9\n");
+    let boards = room.run(&[OsStr::new("split"), name, broken, fake, OsStr::new("./a")]);
+    let printed = [
+        r"$'na\377me': parts 1",
+        "x3",
+        r"$'two\nlines': refused 1 1 0",
+        r"$'a: parts 1\nx0+x1\n\033[2Jb': parts 1",
+        "x9",
+        "./a: parts 1",
+        "x0+x1\n",
+    ];
+    assert_eq!(boards.text(), printed.join("\n"));
+    boards.refused_in_words(r"$'two\nlines'", "1 1 0", "Zero");
+    assert_eq!(boards.err.lines().count(), 1);
+    room.run(&[OsStr::new("split"), name, OsStr::new("")]).trouble(&["there is no file ''"]);
+    room.run(&[OsStr::new("split"), name, OsStr::from_bytes(b"no\nsuch")]).trouble(&[r"there is no file $'no\nsuch'"]);
 }

@@ -163,7 +163,8 @@ fn the_version() {
 #[test]
 fn wrong_usage() {
     let room = room();
-    let wrong: [&[&str]; 33] = [
+    let ship: Vec<&str> = ["split"].into_iter().chain(["a"; 65]).collect();
+    let wrong: [&[&str]; 36] = [
         &[],
         &["splat"],
         &["Split", "a"],
@@ -172,7 +173,10 @@ fn wrong_usage() {
         &[""],
         &["help", "splat"],
         &["help", "split", "pack"],
-        &["split", "a", "b"],
+        &ship,
+        &["split", "-", "-"],
+        &["split", "-", "a", "-"],
+        &["split", "a", "b", "--parts"],
         &["split", "--cells", "a"],
         &["split", "a", "-o", "out"],
         &["split", "a", "--report", "out"],
@@ -205,13 +209,16 @@ fn wrong_usage() {
     room.run(&["splat"]).wrong_usage(&["splat"]);
     room.run(&["pack", "--quick"]).wrong_usage(&["--quick"]);
     room.run(&["audit", "a"]).wrong_usage(&["parts 0"]);
+    room.run(&ship).wrong_usage(&["split takes 64 files at most"]);
 }
 
 /// Behind `--` every word is a file.
 #[test]
 fn the_end_of_options() {
     let room = room();
-    room.run(&["split", "--", "a", "--"]).wrong_usage(&[]);
+    room.run(&["pack", "--", "a", "--"]).wrong_usage(&[]);
+    room.run(&["split", "--", "a", "--"]).trouble(&["there is no file --"]);
+    room.run(&["split", "a", "--", "b"]).gave("a: parts 1\nx0\nb: parts 1\nx1\n");
     room.run(&["split", "--", "--help"]).trouble(&["--help"]);
     room.run_on(&["split", "--"], "x0\n").gave("parts 1\nx0\n");
     room.run_on(&["split", "--", "-"], "x0\n").gave("parts 1\nx0\n");
