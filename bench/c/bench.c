@@ -1,7 +1,8 @@
 /* The benchmark: each call on each input family, by the proved library where it is linked in (-DHAVE_READ, ..), by plain
  * C of the same method, by the published methods, and by FLINT where it is installed. Usage: bench CALL.., where a CALL is
- * split, multiply, same_products, read, write, read_text, write_text or audit, or split_second or same_products_second, and
- * gives its table, audit two; or bench growth SVG. bench/run builds and calls it. */
+ * split, multiply, same_products, read, write, read_text, write_text, audit or deploy, or split_second or
+ * same_products_second, and gives its table, audit two, deploy five; or bench growth SVG. bench/run builds and calls it. */
+#include "deploys.h"
 #include "families.h"
 #include "measure.h"
 #include "peers.h"
@@ -431,6 +432,7 @@ static int run_call(const char *call) {
     else if (!strcmp(call, "same_products")) run_families("same products", FAMILIES(same_families), METHODS(same_methods), 0);
     else if (!strcmp(call, "split")) run_families("split", FAMILIES(split_families), METHODS(split_methods), 0);
     else if (!strcmp(call, "audit")) run_audits("audit, the right parts given", 1), run_audits("audit, a term of one part lost", 0);
+    else if (!strcmp(call, "deploy")) run_deploys();
     else if (!strcmp(call, "same_products_second"))
         run_families("same products, second set", FAMILIES(same_second_families), METHODS(same_methods), 1);
     else if (!strcmp(call, "split_second"))

@@ -128,6 +128,26 @@ void give_parts(job *j) {
     memmove(&j->given[at], &j->given[at + 1], (--j->given_words - at) * sizeof *j->given);
 }
 
+/* ---- deploy: families of split that come in every size */
+
+static void linear_code(job *j, int size) { code(&j->a, UINT64_MAX, 31 - __builtin_clz((unsigned)size)); }
+
+const family deploy_families[] = {
+    {"two random factors, 64 variables", two_square, 1024, 64},
+    {"two random factors with one term flipped", two_flipped, 1024, 64},
+    {"factors (x + y)", ten_sums, 1024, 1},
+    {"{0..t-1}", whole_cube, 1024, 1},
+    {"{0..t-1} without the last", cube_no_last, 1024, 1},
+    {"random over 64 variables", any_64, 1024, 64},
+    {"independent sets of a path", path, 1024, 1},
+    {"staircase", stairs, 1024, 1},
+    {"staircase with one term flipped", stairs_flipped, 1024, 64},
+    {"(1 + sum)(1 + sum) without two terms", sums_without_two, 1024, 64},
+    {"(1 + x)(1 + sum)(1 + sum), one term flipped", three_sums_flipped, 1024, 64},
+    {"random linear code, 64 variables", linear_code, 1024, 64},
+};
+const int deploy_families_count = (int)(sizeof deploy_families / sizeof *deploy_families);
+
 /* ---- multiply */
 
 static void interleaved(job *j, int size) {

@@ -37,6 +37,9 @@ extern const family split_families[];
 extern const int split_families_count;
 extern const family split_second_families[];
 extern const int split_second_families_count;
+/* Boards of a deployment, of any size from 16 terms on; instances is how many of them differ. */
+extern const family deploy_families[];
+extern const int deploy_families_count;
 extern const family multiply_families[];
 extern const int multiply_families_count;
 extern const family same_families[];

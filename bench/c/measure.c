@@ -37,6 +37,23 @@ double median_microseconds(void (*go)(void *), void *with) {
     return median_of(values, repeats);
 }
 
+void by_turns(void (*const *go)(void *), int count, void *with, double *microseconds, double *ratios) {
+    double values[MOST_COLUMNS][TURNS], held[TURNS];
+    double once = timing(go[0], with, 1);
+    long calls = once < 500 ? (long)(500 / (once + 0.02)) + 1 : 1;
+    for (int turn = 0; turn < TURNS; turn++)
+        for (int k = 0; k < count; k++) {
+            int m = (turn + k) % count;
+            go[m](with);
+            values[m][turn] = timing(go[m], with, calls);
+        }
+    for (int m = count - 1; m >= 0; m--) { /* the first is sorted last */
+        for (int turn = 0; turn < TURNS; turn++) held[turn] = values[m][turn] / values[0][turn];
+        ratios[m] = median_of(held, TURNS);
+        microseconds[m] = median_of(values[m], TURNS);
+    }
+}
+
 static void print_time(double us) {
     if (us < 10) printf("%.2f", us);
     else if (us < 1000) printf("%.1f", us);
@@ -74,6 +91,12 @@ static void note_ratio(int column, double ratio, const char *input) {
 }
 
 void table_row(const char *input, size_t terms, const double *us) {
+    double ratios[MOST_COLUMNS];
+    for (int i = 0; i < table_columns; i++) ratios[i] = us[i] / us[0];
+    table_row_held(input, terms, us, ratios);
+}
+
+void table_row_held(const char *input, size_t terms, const double *us, const double *ratios) {
     first_times[table_rows] = us[0], inputs[table_rows++] = input;
     printf("| %s | %zu |", input, terms);
     for (int i = 0; i < table_columns; i++) {
@@ -84,9 +107,9 @@ void table_row(const char *input, size_t terms, const double *us) {
         printf(" ");
         print_time(us[i]);
         if (i > 0) {
-            note_ratio(i, us[i] / us[0], input);
+            note_ratio(i, ratios[i], input);
             printf(" (");
-            print_ratio(us[i] / us[0]);
+            print_ratio(ratios[i]);
             printf(")");
         }
         printf(" |");

@@ -9,13 +9,20 @@
 double median_microseconds(void (*go)(void *), void *with);
 double median_of(double *values, int count);
 
-enum { MOST_COLUMNS = 8, MOST_PANELS = 24, SIZES = 5, SMALLEST = 64 };
+/* Several functions by turns, so that a slow moment of the machine falls on all of them: TURNS times each, in an order that
+ * changes with the turn, each time after a call that is not timed, so that what ran before it does not count. For each the
+ * median of its microseconds, and the median over the turns of its ratio to the first. */
+void by_turns(void (*const *go)(void *), int count, void *with, double *microseconds, double *ratios);
+
+enum { MOST_COLUMNS = 8, MOST_PANELS = 24, SIZES = 5, SMALLEST = 64, TURNS = 201 };
 
 /* A markdown table: a row for each input, a column of microseconds for each method; the first column is what the
  * others are held to. INFINITY is a time that was given up. Behind the table stand the slowest input of the first
  * method and, for each other method, the two ends of its ratio to the first. */
 void table_start(const char *title, const char *const *methods, int columns);
 void table_row(const char *input, size_t terms, const double *microseconds);
+/* The same with ratios that were measured by themselves. */
+void table_row_held(const char *input, size_t terms, const double *microseconds, const double *ratios);
 void table_end(void);
 
 /* How one method's time grows with the number of terms: a line of the picture. A point may be a time at which the method

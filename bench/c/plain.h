@@ -18,6 +18,9 @@ apfelruder_answer plain_write_text(const uint64_t *terms, size_t t, uint8_t *out
 apfelruder_answer plain_audit(const uint64_t *terms, size_t t, const uint64_t *given, size_t given_len,
                               const uint64_t *lengths, size_t parts, uint64_t *part_terms, size_t part_terms_len,
                               uint64_t *part_lengths, size_t part_lengths_len, uint64_t *work, size_t work_len);
+apfelruder_answer plain_deploy(const uint64_t *words, size_t words_len, const uint64_t *lengths, size_t boards,
+                               uint64_t *answers, size_t answers_len, uint64_t *part_terms, size_t part_terms_len,
+                               uint64_t *part_lengths, size_t part_lengths_len, uint64_t *work, size_t work_len);
 
 /* The text of terms in any order; there must be room for it. Its bytes come back. */
 size_t plain_spell(const uint64_t *terms, size_t t, uint8_t *out);
