@@ -12,12 +12,18 @@ use Rattle.deploy.proofs.Turns.{behind-fits, lent-lengths}
 use Rattle.deploy.proofs.board.Statement.{statement}
 use Rattle.deploy.proofs.board.Tie as tie
 
--- the way back to the split, and to the entry
+-- the way back to the entry from the split, by its arguments, and to the split from where the answer is told
+abbrev lent : tie.After-split → tie.After-slice-known4
+lent t = t .before .before .before .before
+
 abbrev entry : tie.After-split → tie.Start
-entry t = t .before .before .before .before .before .before .before .before .before
+entry t = lent t .before .before .before .before .before
+
+abbrev told : tie.After-slice-known8 → tie.After-tell
+told k = k .before .before
 
 abbrev turn : tie.After-slice-known8 → tie.After-split
-turn k = k .before .before .before .before .before .before .before .before .before .before
+turn k = told k .before .before .before .before .before .before .before .before
 
 -- the buffers as the split left them
 abbrev after : tie.After-split → Buffers
@@ -59,7 +65,7 @@ add-filled c = omega (arith, counted c, fit (turn (c .before .before .before)) .
 returns : tie.Need-returns
 returns c =
     let known = c .before .before .before in
-    let tell = known .before .before in
+    let tell = told known in
     let t = turn known in
     let a = entry t .args in
     let s = entry t .pre in

@@ -27,12 +27,18 @@ Inv-loop words lengths answers₀ part-terms₀ part-lengths₀ work₀ n at₀ 
 abbrev μ-loop : tie.MeasureT-loop
 μ-loop words lengths answers₀ part-terms₀ part-lengths₀ work₀ n at₀ terms₀ parts₀ i₀ answers part-terms part-lengths work at terms parts i = n - i
 
--- the way back to the entry from the loop's head, and to the head from the board's turn
+-- the way back to the entry from the loop's head, to the head from the board's turn, and to that from the end of a round
 abbrev entry : tie.At-loop Inv-loop μ-loop → tie.Start Inv-loop μ-loop
 entry h = h .before .before .before .before .before .before .before
 
+abbrev within : tie.After-board Inv-loop μ-loop → tie.In-loop Inv-loop μ-loop
+within b = b .before .before .before .before .before .before .before
+
 abbrev head : tie.After-board Inv-loop μ-loop → tie.At-loop Inv-loop μ-loop
-head b = b .before .before .before .before .before .before .before .before
+head b = within b .before
+
+abbrev turn : tie.After-slice-known8 Inv-loop μ-loop → tie.After-board Inv-loop μ-loop
+turn c = c .before .before .before .before .before .before .before .before
 
 loop-holds : tie.Need-loop-holds Inv-loop μ-loop
 loop-holds c =
@@ -85,13 +91,13 @@ board-requires c κs =
     (answer-there in-loop, inv .2, inv .3)
 
 add-i : tie.Need-add-i Inv-loop μ-loop
-add-i c = omega (arith, few-boards (c .before .before .before .before .before .before .before .before .before .before .before .before .before .before .before))
+add-i c = omega (arith, few-boards (within (turn c)))
 
 loop-again : tie.Need-loop-again Inv-loop μ-loop
 loop-again c =
-    let b = c .before .before .before .before .before .before .before .before in
+    let b = turn c in
     let h = head b in
-    let in-loop = b .before .before .before .before .before .before .before in
+    let in-loop = within b in
     let a = entry h .args in
     let here = h .loop in
     let inv = here .inv in
