@@ -2,38 +2,27 @@
 use Prim.Native.Nat.{ℕ, _+_, _-_, _≤_}
 use native.Mathlib.Omega.{arith}
 use mathlib.Core.Path.{_≡_, refl, sym, ap, ap₂, _∙_, subst}
-use mathlib.Core.List.{List, [], _∷_, _++_, append-nil}
-use lib.ListN.{length, take, drop, set, length-drop}
-use lib.Seq.{length-take-le, take-at, drop-at, take-all, drop-drop, drop-length}
+use mathlib.Core.List.{List, [], _∷_, _++_}
+use lib.ListN.{length, take, drop, set}
+use lib.Seq.{length-take-le, take-at, drop-at}
 use Rattle.answer.specs.declared.Answer.{Answer}
+use Rattle.narrow.proofs.Laws.{numbers-rest, numbers-rest-written}
 use Rattle.parts.specs.Split.{Buffers, SplitEnds}
 use Rattle.deploy.specs.Deploy.{answerWords}
 use Rattle.deploy.specs.Turn.{SplitBehind}
-
--- the rest from a place on, lent whole
-pub rest-lent : (k : ℕ) (l : List ℕ) → take (length l - k) (drop k l) ≡ drop k l
-rest-lent k l = take-all (length l - k) (drop k l) (omega (arith, length-drop k l))
 
 -- new words in the place of those from k on
 abbrev pub put : ℕ → List ℕ → List ℕ → List ℕ
 put k l new = take k l ++ (new ++ drop (length l - k) (drop k l))
 
 module _ (k : ℕ) (l new : List ℕ) (here : k ≤ length l) where
-  -- nothing is behind them
-  nothing-behind : drop (length l - k) (drop k l) ≡ []
-  nothing-behind =
-      let e : k + (length l - k) ≡ length l = omega (arith, here) in drop-drop (length l - k) k l ∙ ap (λ (n : ℕ). drop n l) e ∙ drop-length l
-
-  all-put : put k l new ≡ take k l ++ new
-  all-put = ap (λ (e : List ℕ). take k l ++ (new ++ e)) nothing-behind ∙ ap (_++_ (take k l)) (append-nil new)
-
   -- the words before that place stay,
   pub before-put : take k (put k l new) ≡ take k l
-  before-put = ap (take k) all-put ∙ take-at (take k l) new k (length-take-le k l here)
+  before-put = ap (take k) (numbers-rest-written k l new here) ∙ take-at (take k l) new k (length-take-le k l here)
 
   -- and behind it stand the new ones
   pub behind-put : drop k (put k l new) ≡ new
-  behind-put = ap (drop k) all-put ∙ drop-at (take k l) new k (length-take-le k l here)
+  behind-put = ap (drop k) (numbers-rest-written k l new here) ∙ drop-at (take k l) new k (length-take-le k l here)
 
 -- a split into the rests of both outputs, as they are lent
 pub in-the-rest : (maxTerms maxVars : ℕ) (f : List ℕ) (terms parts : ℕ) (ts ls work new-ts new-ls new-work : List ℕ) (answer : Answer)
@@ -48,7 +37,7 @@ in-the-rest maxTerms maxVars f terms parts ts ls work new-ts new-ls new-work ans
   subst (λ (b : Buffers). SplitEnds maxTerms maxVars f (record { terms = drop terms ts; lengths = drop parts ls; work = work }) answer b)
       (ap₂ (λ (p q : List ℕ). record { terms = p; lengths = q; work = new-work }) (sym (behind-put terms ts new-ts h)) (sym (behind-put parts ls new-ls k)))
       (subst (λ (b : Buffers). SplitEnds maxTerms maxVars f b answer (record { terms = new-ts; lengths = new-ls; work = new-work }))
-      (ap₂ (λ (p q : List ℕ). record { terms = p; lengths = q; work = work }) (rest-lent terms ts) (rest-lent parts ls)) ends),
+      (ap₂ (λ (p q : List ℕ). record { terms = p; lengths = q; work = work }) (numbers-rest terms ts) (numbers-rest parts ls)) ends),
 )
 
 -- four words, written one after another at the start of their room
@@ -64,4 +53,4 @@ four-written a (x ∷ y ∷ z ∷ w ∷ room) h = refl
 -- an answer written into the room from a place on, as it is lent
 pub answer-written : (a : Answer) (at : ℕ) (answers new : List ℕ) → at ≤ length answers → new ≡ answerWords (a ∷ []) ++ drop 4 (take (length answers - at) (drop at answers))
     → drop at (put at answers new) ≡ answerWords (a ∷ []) ++ drop 4 (drop at answers)
-answer-written a at answers new h e = behind-put at answers new h ∙ e ∙ ap (λ (l : List ℕ). answerWords (a ∷ []) ++ drop 4 l) (rest-lent at answers)
+answer-written a at answers new h e = behind-put at answers new h ∙ e ∙ ap (λ (l : List ℕ). answerWords (a ∷ []) ++ drop 4 l) (numbers-rest at answers)

@@ -4,6 +4,7 @@ use super::expected::held;
 use super::kinds::kinds;
 use super::lengths::lengths;
 use super::refusals::{any_list, any_room, spoiled};
+use super::sums::sums;
 use super::{audit_request, audit_room, joined, steps};
 use crate::call::{Call, Expected, Request};
 use crate::run::{Oracle, Run};
@@ -30,7 +31,7 @@ pub fn all(run: &mut Run) {
     run.family("audit: order, every place");
     places(run);
     run.family("audit: lengths that do or do not add up");
-    sums(run);
+    adding_up(run);
     run.family("audit: every kind of operand, every room");
     every_kind(run);
     run.family("audit: beyond 16 bits");
@@ -151,59 +152,12 @@ fn places(run: &mut Run) {
     }
 }
 
-/// So many words are lent, and the lengths add to that, to one less or more, or to that and some power of two.
-fn sums(run: &mut Run) {
-    let ask = |run: &mut Run, words: usize, lengths: &[u64]| {
+/// Lengths that add to the words, and lengths that do not.
+fn adding_up(run: &mut Run) {
+    sums(|words, lengths| {
         let buffers = lent(run, audit_room(4));
-        held(run, Request::audit(&[1, 2, 5, 6], &steps(words), lengths, buffers));
-    };
-    for words in [0usize, 1, 4, 5, 255, 256, 1024] {
-        let sum = words as u64;
-        for many in [1usize, 2, 3, 63, 64] {
-            // all in the first, in the last, and some in each
-            let mut first = vec![0; many];
-            first[0] = sum;
-            let mut even = vec![sum / many as u64; many];
-            even[many - 1] += sum % many as u64;
-            for right in [first.iter().rev().copied().collect(), first, even] {
-                ask(run, words, &right);
-                for at in [0, many / 2, many - 1] {
-                    for change in powers().into_iter().chain([u64::MAX]) {
-                        let mut lengths = right.clone();
-                        lengths[at] = lengths[at].wrapping_add(change);
-                        ask(run, words, &lengths);
-                    }
-                }
-            }
-            // so that the sum in 64 bits is right
-            for half in [1 << 63, u64::MAX - 7, u64::MAX] {
-                let mut wrapped = vec![0; many + 1];
-                wrapped[0] = half;
-                wrapped[many] = sum.wrapping_sub(half);
-                ask(run, words, &wrapped[..many.min(63) + 1]);
-            }
-        }
-        for lengths in [vec![], vec![u64::MAX; 64], vec![1 << 58; 64], vec![(1 << 58) + sum; 64], vec![u64::MAX; 65]] {
-            ask(run, words, &lengths);
-        }
-    }
-    for many in [64usize, 65, 66, 127, 128, 129, 255, 256, 257] {
-        ask(run, many, &vec![1; many]);
-        ask(run, many, &vec![0; many]);
-        ask(run, 0, &vec![0; many]);
-    }
-    // as many words as can be right
-    for (words, lengths) in
-        [(65536, vec![1024; 64]), (65535, vec![1024; 64]), (65537, vec![1024; 64]), (0, vec![1024; 64])]
-    {
-        let whole: Vec<u64> = steps(1024).into_iter().cycle().take(words).collect();
-        let buffers = lent(run, audit_room(4));
-        held(run, Request::audit(&[1, 2, 5, 6], &whole, &lengths, buffers));
-    }
-}
-
-fn powers() -> Vec<u64> {
-    [0, 1, 2, 8, 10, 11, 16, 17, 31, 32, 33, 63].map(|bits| 1 << bits).to_vec()
+        held(run, Request::audit(&[1, 2, 5, 6], words, lengths, buffers));
+    });
 }
 
 /// Each kind of list as the approved one and as given ones; then each kind with all rooms, and with some given lists.

@@ -4,6 +4,7 @@ use super::deployments::{enough, small, told, unfit, Board};
 use super::expected::deployed;
 use super::lengths::lengths;
 use super::refusals::{any_list, any_room, spoiled};
+use super::sums::sums;
 use super::{deploy_room, in_order, joined, steps};
 use crate::call::{Call, Expected, Request};
 use crate::run::{Oracle, Run};
@@ -30,7 +31,7 @@ pub fn all(run: &mut Run) {
     run.family("deploy: order, every place");
     places(run);
     run.family("deploy: lengths that do or do not add up");
-    sums(run);
+    adding_up(run);
     run.family("deploy: beyond 16 bits");
     long(run);
 }
@@ -159,64 +160,20 @@ fn places(run: &mut Run) {
     }
 }
 
-/// So many words are lent, and the lengths add to that, to one less or more, or to that and some power of two. There is no room for
-/// parts, so that no long list is split.
-fn sums(run: &mut Run) {
-    let ask = |run: &mut Run, words: usize, lengths: &[u64]| {
+/// Lengths that add to the words, and lengths that do not. There is no room for parts, so that no long list is split.
+fn adding_up(run: &mut Run) {
+    let mut ask = |words: &[u64], lengths: &[u64]| {
         let most = run.random.between(4 * lengths.len().min(65), 270);
         let buffers = lent(run, [most, 64, 64, 8]);
-        held(run, Request::deploy(&steps(words), lengths, buffers));
+        held(run, Request::deploy(words, lengths, buffers));
     };
+    sums(&mut ask);
+    // right in 64 bits, with the wrap in the middle and right lengths around it
     for words in [0usize, 1, 4, 5, 255, 256, 1024] {
-        let sum = words as u64;
-        for many in [1usize, 2, 3, 63, 64] {
-            // all in the first, in the last, and some in each
-            let mut first = vec![0; many];
-            first[0] = sum;
-            let mut even = vec![sum / many as u64; many];
-            even[many - 1] += sum % many as u64;
-            for right in [first.iter().rev().copied().collect(), first, even] {
-                ask(run, words, &right);
-                for at in [0, many / 2, many - 1] {
-                    for change in powers().into_iter().chain([u64::MAX]) {
-                        let mut lengths = right.clone();
-                        lengths[at] = lengths[at].wrapping_add(change);
-                        ask(run, words, &lengths);
-                    }
-                }
-            }
-            // so that the sum in 64 bits is right: 2 to the 64, or that and the words
-            for half in [1 << 63, u64::MAX - 7, u64::MAX] {
-                let mut wrapped = vec![0; many + 1];
-                wrapped[0] = half;
-                wrapped[many] = sum.wrapping_sub(half);
-                ask(run, words, &wrapped[..many.min(63) + 1]);
-                // the wrap in the middle, right lengths around it
-                let wrapped = [1, half, sum.wrapping_sub(half).wrapping_sub(2), 1];
-                ask(run, words, &wrapped);
-            }
-        }
-        for lengths in [vec![], vec![u64::MAX; 64], vec![1 << 58; 64], vec![(1 << 58) + sum; 64], vec![u64::MAX; 65]] {
-            ask(run, words, &lengths);
+        for half in [1 << 63, u64::MAX - 7, u64::MAX] {
+            ask(&steps(words), &[1, half, (words as u64).wrapping_sub(half).wrapping_sub(2), 1]);
         }
     }
-    for many in [64usize, 65, 66, 127, 128, 129, 255, 256, 257] {
-        ask(run, many, &vec![1; many]);
-        ask(run, many, &vec![0; many]);
-        ask(run, 0, &vec![0; many]);
-    }
-    // as many words as can be right
-    for (words, lengths) in
-        [(65536, vec![1024; 64]), (65535, vec![1024; 64]), (65537, vec![1024; 64]), (0, vec![1024; 64])]
-    {
-        let whole: Vec<u64> = steps(1024).into_iter().cycle().take(words).collect();
-        let buffers = lent(run, [256, 64, 64, 8]);
-        held(run, Request::deploy(&whole, &lengths, buffers));
-    }
-}
-
-fn powers() -> Vec<u64> {
-    [0, 1, 2, 8, 10, 11, 16, 17, 31, 32, 33, 63].map(|bits| 1 << bits).to_vec()
 }
 
 /// Boards, numbers of boards and buffers far beyond the limits, near powers of two.

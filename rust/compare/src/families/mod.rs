@@ -16,6 +16,7 @@ pub mod refusals;
 pub mod shared;
 pub mod sizes;
 pub mod small;
+mod sums;
 pub mod texts;
 pub mod written;
 
