@@ -1,6 +1,6 @@
 -- What a function that only checks promises, and what passing means. Nothing here has to be believed: it carries the proof of a call's
 -- promise (Ends.antt) from its checks to its work.
-use Rattle.std.specs.Prelude.{ℕ, ◌<◌, ◌≡◌, Bool, true, false, List, [], ◌∷◌, ltb}
+use Rattle.std.specs.Prelude.{◌<◌, ◌≡◌, Bool, true, false, List, [], ◌∷◌, ltb}
 use Rattle.answer.specs.declared.Answer.{Answer}
 use Rattle.answer.specs.Table.{accepted, refused}
 use Rattle.answer.specs.Ends.{Check, if}

@@ -1,11 +1,13 @@
 // What comes back (RULES 5.1): a case for each way a call can end, and the four numbers that stand for it.
 // The table of codes is specs/Table.antt; every promise of a call goes through it.
+#![tactic(auto)]
+
 ghost use Rattle.std.specs.Prelude.{◌<◌, ◌≡◌, ltb};
 ghost use Rattle.answer.specs.Table.{numbers_of, refused};
 
 // The four numbers of every answer.
 #[repr(C)]
-#[derive(Drop)]
+#[derive(Clone, Copy)]
 pub struct Answer {
     pub code: u64,
     pub operand: u64,
@@ -14,7 +16,7 @@ pub struct Answer {
 }
 
 // How a call ends. Operands count from 1; operand 0 is no single list.
-#[derive(Drop)]
+#[derive(Clone, Copy)]
 pub enum Outcome {
     // accepted: what was counted
     Done { count: u64 },

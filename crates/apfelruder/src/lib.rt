@@ -1,6 +1,8 @@
 // The calls for programs in C and Rust (RULES 5.6): thin over the proved library, each slice a pointer and a length, the four
 // numbers of the answer by value. Each promises what the call of the library promises, word for word. No call asks anything of
 // its caller; each refuses instead.
+#![tactic(auto)]
+
 ghost use Rattle.audit.specs.Audit.{AuditEnds};
 ghost use Rattle.block.specs.Calls.{ReadEnds, WriteEnds};
 ghost use Rattle.deploy.specs.Deploy.{DeployEnds};
@@ -10,7 +12,9 @@ ghost use Rattle.same.specs.Same.{SameEnds};
 ghost use Rattle.text.specs.Calls.{ReadTextEnds, WriteTextEnds};
 
 use answer::Answer;
+use deploy::MAX_BOARDS;
 use terms::TermList;
+use text::MAX_BYTES;
 
 // The irreducible parts of a term list.
 #[unsafe(no_mangle)]
@@ -20,13 +24,10 @@ pub extern "C" fn apfelruder_split(
     part_lengths: &mut [u64],
     work: &mut [u64],
 ) -> Answer
-    ensures* { do
-      most ← (⟦TermList::MAX_TERMS⟧).entry
-      vars ← (⟦TermList::MAX_VARS⟧).entry
-      ⌜ SplitEnds most vars terms.entry.now
-          (record { terms = part_terms.old; lengths = part_lengths.old; work = work.old })
-          result
-          (record { terms = part_terms.new; lengths = part_lengths.new; work = work.new }) ⌝ }
+    ensures { SplitEnds TermList.MAX_TERMS TermList.MAX_VARS terms.now
+        (record { terms = part_terms.old; lengths = part_lengths.old; work = work.old })
+        result
+        (record { terms = part_terms.new; lengths = part_lengths.new; work = work.new }) }
 {
     answer::numbers(parts::split(terms, part_terms, part_lengths, work))
 }
@@ -34,9 +35,7 @@ pub extern "C" fn apfelruder_split(
 // The product of two term lists that share no variable.
 #[unsafe(no_mangle)]
 pub extern "C" fn apfelruder_multiply(a: &[u64], b: &[u64], out: &mut [u64]) -> Answer
-    ensures* { do
-      most ← (⟦TermList::MAX_TERMS⟧).entry
-      ⌜ MultiplyEnds most a.now b.now out.old result out.new ⌝ }
+    ensures { MultiplyEnds TermList.MAX_TERMS a.now b.now out.old result out.new }
 {
     answer::numbers(product::multiply(a, b, out))
 }
@@ -44,10 +43,7 @@ pub extern "C" fn apfelruder_multiply(a: &[u64], b: &[u64], out: &mut [u64]) -> 
 // Whether AD = BC, for four term lists: count 1 for yes, 0 for no.
 #[unsafe(no_mangle)]
 pub extern "C" fn apfelruder_same_products(a: &[u64], d: &[u64], b: &[u64], c: &[u64]) -> Answer
-    ensures* { do
-      most ← (⟦TermList::MAX_TERMS⟧).entry
-      vars ← (⟦TermList::MAX_VARS⟧).entry
-      ⌜ SameEnds most vars a.now d.now b.now c.now result ⌝ }
+    ensures { SameEnds TermList.MAX_TERMS TermList.MAX_VARS a.now d.now b.now c.now result }
 {
     answer::numbers(same::same_products(a, d, b, c))
 }
@@ -55,10 +51,7 @@ pub extern "C" fn apfelruder_same_products(a: &[u64], d: &[u64], b: &[u64], c: &
 // A block read into a term list.
 #[unsafe(no_mangle)]
 pub extern "C" fn apfelruder_read(bytes: &[u8], out: &mut [u64]) -> Answer
-    ensures* { do
-      most ← (⟦TermList::MAX_TERMS⟧).entry
-      vars ← (⟦TermList::MAX_VARS⟧).entry
-      ⌜ ReadEnds most vars bytes.now out.old result out.new ⌝ }
+    ensures { ReadEnds TermList.MAX_TERMS TermList.MAX_VARS bytes.now out.old result out.new }
 {
     answer::numbers(block::read(bytes, out))
 }
@@ -66,9 +59,7 @@ pub extern "C" fn apfelruder_read(bytes: &[u8], out: &mut [u64]) -> Answer
 // A term list written as a block.
 #[unsafe(no_mangle)]
 pub extern "C" fn apfelruder_write(terms: &[u64], out: &mut [u8]) -> Answer
-    ensures* { do
-      most ← (⟦TermList::MAX_TERMS⟧).entry
-      ⌜ WriteEnds most terms.now out.old result out.new ⌝ }
+    ensures { WriteEnds TermList.MAX_TERMS terms.now out.old result out.new }
 {
     answer::numbers(block::write(terms, out))
 }
@@ -76,11 +67,7 @@ pub extern "C" fn apfelruder_write(terms: &[u64], out: &mut [u8]) -> Answer
 // A text read into a term list.
 #[unsafe(no_mangle)]
 pub extern "C" fn apfelruder_read_text(text: &[u8], out: &mut [u64]) -> Answer
-    ensures* { do
-      longest ← (⟦text::MAX_BYTES⟧).entry
-      most ← (⟦TermList::MAX_TERMS⟧).entry
-      vars ← (⟦TermList::MAX_VARS⟧).entry
-      ⌜ ReadTextEnds longest most vars text.now out.old result out.new ⌝ }
+    ensures { ReadTextEnds MAX_BYTES TermList.MAX_TERMS TermList.MAX_VARS text.now out.old result out.new }
 {
     answer::numbers(text::read_text(text, out))
 }
@@ -88,10 +75,7 @@ pub extern "C" fn apfelruder_read_text(text: &[u8], out: &mut [u64]) -> Answer
 // A term list written as text.
 #[unsafe(no_mangle)]
 pub extern "C" fn apfelruder_write_text(terms: &[u64], out: &mut [u8]) -> Answer
-    ensures* { do
-      longest ← (⟦text::MAX_BYTES⟧).entry
-      most ← (⟦TermList::MAX_TERMS⟧).entry
-      ⌜ WriteTextEnds longest most terms.now out.old result out.new ⌝ }
+    ensures { WriteTextEnds MAX_BYTES TermList.MAX_TERMS terms.now out.old result out.new }
 {
     answer::numbers(text::write_text(terms, out))
 }
@@ -106,13 +90,10 @@ pub extern "C" fn apfelruder_audit(
     part_lengths: &mut [u64],
     work: &mut [u64],
 ) -> Answer
-    ensures* { do
-      most ← (⟦TermList::MAX_TERMS⟧).entry
-      vars ← (⟦TermList::MAX_VARS⟧).entry
-      ⌜ AuditEnds most vars terms.entry.now given_terms.now given_lengths.now
-          (record { terms = part_terms.old; lengths = part_lengths.old; work = work.old })
-          result
-          (record { terms = part_terms.new; lengths = part_lengths.new; work = work.new }) ⌝ }
+    ensures { AuditEnds TermList.MAX_TERMS TermList.MAX_VARS terms.now given_terms.now given_lengths.now
+        (record { terms = part_terms.old; lengths = part_lengths.old; work = work.old })
+        result
+        (record { terms = part_terms.new; lengths = part_lengths.new; work = work.new }) }
 {
     answer::numbers(audit::audit(
         terms,
@@ -134,14 +115,10 @@ pub extern "C" fn apfelruder_deploy(
     part_lengths: &mut [u64],
     work: &mut [u64],
 ) -> Answer
-    ensures* { do
-      boards ← (⟦deploy::MAX_BOARDS⟧).entry
-      most ← (⟦TermList::MAX_TERMS⟧).entry
-      vars ← (⟦TermList::MAX_VARS⟧).entry
-      ⌜ DeployEnds boards most vars words.now lengths.now
-          (record { answers = answers.entry.now; outputs = record { terms = part_terms.old; lengths = part_lengths.old; work = work.old } })
-          result
-          (record { answers = answers.exit.now; outputs = record { terms = part_terms.new; lengths = part_lengths.new; work = work.new } }) ⌝ }
+    ensures { DeployEnds MAX_BOARDS TermList.MAX_TERMS TermList.MAX_VARS words.now lengths.now
+        (record { answers = answers.old; outputs = record { terms = part_terms.old; lengths = part_lengths.old; work = work.old } })
+        result
+        (record { answers = answers.new; outputs = record { terms = part_terms.new; lengths = part_lengths.new; work = work.new } }) }
 {
     answer::numbers(deploy::deploy(words, lengths, answers, part_terms, part_lengths, work))
 }

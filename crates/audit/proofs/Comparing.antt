@@ -1,7 +1,7 @@
 -- Two lists of words compared from the front, one word after another. Assumes nothing.
 use Prim.Native.Nat.{ℕ, ◌+◌, ◌<◌}
 use mathlib.Core.Path.{◌≡◌, sym, ap, ap₂, ◌∙◌}
-use mathlib.Core.Bool.{Bool, true, false, not, true≢false}
+use mathlib.Core.Bool.{Bool, true, false, true≢false}
 use mathlib.Core.List.{List, [], ◌∷◌, ◌++◌}
 use native.Mathlib.Numerals.{add-one}
 use native.Mathlib.Omega.{arith}
@@ -31,13 +31,13 @@ too_short front list h same =
 
 -- ---- what was said
 
-pub said_no : (claim : Type 0) (r : Bool) → Said claim r → not r ≡ true → ¬ claim
-said_no claim true s e = absurd (true≢false (sym e))
+pub said_no : (claim : Type 0) (r : Bool) → Said claim r → r ≡ false → ¬ claim
+said_no claim true s e = absurd (true≢false e)
 said_no claim false s e = s
 
-pub said_yes : (claim : Type 0) (r : Bool) → Said claim r → not r ≡ false → claim
+pub said_yes : (claim : Type 0) (r : Bool) → Said claim r → r ≡ true → claim
 said_yes claim true s e = s
-said_yes claim false s e = absurd (true≢false e)
+said_yes claim false s e = absurd (true≢false (sym e))
 
 -- lengths that agree leave the words to be asked for
 pub words_left : (words ls terms lengths : List ℕ) (parts : ℕ) (r : Bool) → length ls ≡ parts → Front ls lengths → Said (Front words terms) r

@@ -1,5 +1,7 @@
 // Audit (RULES 13): whether given parts are the parts of an approved equation. The given parts are checked with it, then it is split into the
 // lent buffers, and what stands there is compared with what was given.
+#![tactic(auto)]
+
 ghost use Rattle.std.specs.Prelude.{◌≡◌, ◌∷◌, ◌≤◌, length};
 ghost use Rattle.answer.specs.Table.{numbers_of};
 ghost use Rattle.answer.specs.Checked.{Passed, Checked};
@@ -20,11 +22,10 @@ pub fn audit(
     part_lengths: &mut [u64],
     work: &mut [u64],
 ) -> Outcome
-    ensures* { do
-      ⌜ AuditEnds (← (⟦TermList::MAX_TERMS⟧).entry) (← (⟦TermList::MAX_VARS⟧).entry) list.now given.now given_lengths.now
-          (record { terms = part_terms.old; lengths = part_lengths.old; work = work.old })
-          (numbers_of result)
-          (record { terms = part_terms.new; lengths = part_lengths.new; work = work.new }) ⌝ }
+    ensures { AuditEnds TermList.MAX_TERMS TermList.MAX_VARS list.now given.now given_lengths.now
+        (record { terms = part_terms.old; lengths = part_lengths.old; work = work.old })
+        (numbers_of result)
+        (record { terms = part_terms.new; lengths = part_lengths.new; work = work.new }) }
 {
     let verdict = checks(
         list,
@@ -50,9 +51,8 @@ fn checks(
     lengths: usize,
     work: usize,
 ) -> Outcome
-    ensures* { do
-      ⌜ Checked (audit_checks (← (⟦TermList::MAX_TERMS⟧).entry) (← (⟦TermList::MAX_VARS⟧).entry) list.now given.now
-          given_lengths.now room lengths work) (numbers_of result) ⌝ }
+    ensures { Checked (audit_checks TermList.MAX_TERMS TermList.MAX_VARS list.now given.now
+        given_lengths.now room lengths work) (numbers_of result) }
 {
     let whole = lists::check_lent(TermList::MAX_VARS, given.len(), given_lengths);
     if answer::refuses(whole) {
@@ -74,12 +74,10 @@ fn check_lists(
     lengths: usize,
     work: usize,
 ) -> Outcome
-    requires* { do
-      ⌜ (length list.now ≤ (← ⟦TermList::MAX_TERMS⟧)) × (length given_lengths.now ≤ (← ⟦TermList::MAX_VARS⟧))
-          × (added given_lengths.now ≡ length given.now) ⌝ }
-    ensures* { do
-      ⌜ Checked (list_checks (← (⟦TermList::MAX_VARS⟧).entry) list.now (cut given_lengths.now given.now) room lengths work)
-          (numbers_of result) ⌝ }
+    requires { (length list.now ≤ TermList.MAX_TERMS) × (length given_lengths.now ≤ TermList.MAX_VARS)
+        × (added given_lengths.now ≡ length given.now) }
+    ensures { Checked (list_checks TermList.MAX_VARS list.now (cut given_lengths.now given.now) room lengths work)
+        (numbers_of result) }
 {
     let t = list.len();
     if t == 0 {
@@ -94,8 +92,8 @@ fn check_lists(
 
 // Refuses too little room, as split does for t terms.
 fn check_room(t: usize, room: usize, lengths: usize, work: usize) -> Outcome
-    requires* { do ⌜ t ≤ (← ⟦TermList::MAX_TERMS⟧) ⌝ }
-    ensures* { do ⌜ Checked (room_checks (← (⟦TermList::MAX_VARS⟧).entry) t room lengths work) (numbers_of result) ⌝ }
+    requires { t ≤ TermList.MAX_TERMS }
+    ensures { Checked (room_checks TermList.MAX_VARS t room lengths work) (numbers_of result) }
 {
     if room < t + TermList::MAX_VARS {
         return Outcome::Room { operand: 1 };
@@ -111,8 +109,8 @@ fn check_room(t: usize, room: usize, lengths: usize, work: usize) -> Outcome
 
 // Refuses the first list with too many terms: the approved one with t, then the given parts.
 fn check_long(t: usize, given_lengths: &[u64]) -> Outcome
-    requires* { do ⌜ length given_lengths.now ≤ (← ⟦TermList::MAX_VARS⟧) ⌝ }
-    ensures* { do ⌜ Checked (long_checks (← (⟦TermList::MAX_TERMS⟧).entry) 1 (t ∷ given_lengths.now)) (numbers_of result) ⌝ }
+    requires { length given_lengths.now ≤ TermList.MAX_VARS }
+    ensures { Checked (long_checks TermList.MAX_TERMS 1 (t ∷ given_lengths.now)) (numbers_of result) }
 {
     if TermList::MAX_TERMS < t {
         return Outcome::TooMany { operand: 1 };
@@ -132,7 +130,7 @@ fn check_long(t: usize, given_lengths: &[u64]) -> Outcome
 
 // Refuses the first list with a term out of order: the approved one, then the given parts.
 fn check_order(list: &[u64], given: &[u64], given_lengths: &[u64]) -> Outcome
-    requires* { do ⌜ (length given_lengths.now ≤ (← ⟦TermList::MAX_VARS⟧)) × (added given_lengths.now ≡ length given.now) ⌝ }
+    requires { (length given_lengths.now ≤ TermList.MAX_VARS) × (added given_lengths.now ≡ length given.now) }
     ensures { Checked (order_checks 1 (list.now ∷ cut given_lengths.now given.now)) (numbers_of result) }
 {
     let first = terms::first_unordered(list);
@@ -170,9 +168,8 @@ fn judge(
     part_lengths: &mut [u64],
     work: &mut [u64],
 ) -> u64
-    requires* { do
-      ⌜ Passed (audit_checks (← ⟦TermList::MAX_TERMS⟧) (← ⟦TermList::MAX_VARS⟧) list.now given.now given_lengths.now
-          (length part_terms.old) (length part_lengths.old) (length work.old)) ⌝ }
+    requires { Passed (audit_checks TermList.MAX_TERMS TermList.MAX_VARS list.now given.now given_lengths.now
+        (length part_terms.old) (length part_lengths.old) (length work.old)) }
     ensures { Audited list.now (cut given_lengths.now given.now)
         (record { terms = part_terms.old; lengths = part_lengths.old; work = work.old })
         result
@@ -187,9 +184,8 @@ fn judge(
 
 // The number of the parts that split writes.
 fn split(list: &[u64], part_terms: &mut [u64], part_lengths: &mut [u64], work: &mut [u64]) -> u64
-    requires* { do
-      ⌜ Passed (split_checks (← ⟦TermList::MAX_TERMS⟧) (← ⟦TermList::MAX_VARS⟧) list.now (length part_terms.old) (length part_lengths.old)
-          (length work.old)) ⌝ }
+    requires { Passed (split_checks TermList.MAX_TERMS TermList.MAX_VARS list.now (length part_terms.old) (length part_lengths.old)
+        (length work.old)) }
     ensures { Splits list.now (record { terms = part_terms.old; lengths = part_lengths.old; work = work.old })
         result
         (record { terms = part_terms.new; lengths = part_lengths.new; work = work.new }) }

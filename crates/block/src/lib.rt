@@ -1,5 +1,7 @@
 // Read and write: between a term list and its block (RULES 4 and 5). A refusal leaves the lent buffer alone, so each call checks
 // first and then writes; read goes through the block twice.
+#![tactic(auto)]
+
 ghost use Rattle.std.specs.Prelude.{◌*◌, ◌≤◌, length};
 ghost use Rattle.answer.specs.Table.{numbers_of};
 ghost use Rattle.answer.specs.Ends.{Writes};
@@ -13,10 +15,7 @@ use terms::TermList;
 
 // Reads a block into a term list.
 pub fn read(bytes: &[u8], out: &mut [u64]) -> Outcome
-    ensures* { do
-      terms ← (⟦TermList::MAX_TERMS⟧).entry
-      vars ← (⟦TermList::MAX_VARS⟧).entry
-      ⌜ ReadEnds terms vars bytes.now (numbers out.old) (numbers_of result) (numbers out.new) ⌝ }
+    ensures { ReadEnds TermList.MAX_TERMS TermList.MAX_VARS bytes.now (numbers out.old) (numbers_of result) (numbers out.new) }
 {
     let verdict = read_checks(bytes, narrow::count(out));
     if answer::refuses(verdict) {
@@ -28,10 +27,7 @@ pub fn read(bytes: &[u8], out: &mut [u64]) -> Outcome
 
 // What read refuses, in the order of the rules.
 fn read_checks(bytes: &[u8], room: usize) -> Outcome
-    ensures* { do
-      terms ← (⟦TermList::MAX_TERMS⟧).entry
-      vars ← (⟦TermList::MAX_VARS⟧).entry
-      ⌜ Checked (read_checks terms vars bytes.now room) (numbers_of result) ⌝ }
+    ensures { Checked (read_checks TermList.MAX_TERMS TermList.MAX_VARS bytes.now room) (numbers_of result) }
 {
     if bytes.len() < 3 {
         return Outcome::Short { operand: 1 };
@@ -86,10 +82,7 @@ fn body_checks(bytes: &[u8], n: usize, t: usize, room: usize) -> Outcome
 
 // Writes the terms of a block that passed the checks, and counts them.
 fn read_terms(bytes: &[u8], out: &mut [u64]) -> usize
-    requires* { do
-      terms ← ⟦TermList::MAX_TERMS⟧
-      vars ← ⟦TermList::MAX_VARS⟧
-      ⌜ Passed (read_checks terms vars bytes.now (length (numbers out.old))) ⌝ }
+    requires { Passed (read_checks TermList.MAX_TERMS TermList.MAX_VARS bytes.now (length (numbers out.old))) }
     ensures { Writes (terms_in bytes.now (n_in bytes.now) (t_in bytes.now)) (numbers out.old) result (numbers out.new) }
 {
     let n = digits::field(bytes, 4, 7) as usize;
@@ -100,7 +93,7 @@ fn read_terms(bytes: &[u8], out: &mut [u64]) -> usize
 
 // Writes the block of a term list.
 pub fn write(terms: &[u64], out: &mut [u8]) -> Outcome
-    ensures* { do ⌜ WriteEnds (← (⟦TermList::MAX_TERMS⟧).entry) (numbers terms.now) out.old (numbers_of result) out.new ⌝ }
+    ensures { WriteEnds TermList.MAX_TERMS (numbers terms.now) out.old (numbers_of result) out.new }
 {
     let verdict = write_checks(terms, out.len());
     if answer::refuses(verdict) {
@@ -112,7 +105,7 @@ pub fn write(terms: &[u64], out: &mut [u8]) -> Outcome
 
 // What write refuses, in the order of the rules.
 fn write_checks(terms: &[u64], room: usize) -> Outcome
-    ensures* { do ⌜ Checked (write_checks (← (⟦TermList::MAX_TERMS⟧).entry) (numbers terms.now) room) (numbers_of result) ⌝ }
+    ensures { Checked (write_checks TermList.MAX_TERMS (numbers terms.now) room) (numbers_of result) }
 {
     let t = narrow::count(terms);
     if TermList::MAX_TERMS < t {
@@ -135,7 +128,7 @@ fn write_checks(terms: &[u64], room: usize) -> Outcome
 
 // Writes the block of a list that passed the checks, and counts its bytes.
 fn write_block(terms: &[u64], out: &mut [u8]) -> usize
-    requires* { do ⌜ Passed (write_checks (← ⟦TermList::MAX_TERMS⟧) (numbers terms.now) (length out.old)) ⌝ }
+    requires { Passed (write_checks TermList.MAX_TERMS (numbers terms.now) (length out.old)) }
     ensures { Writes (block_of (numbers terms.now)) out.old result out.new }
 {
     let n = packing::list_n(terms);

@@ -1,5 +1,7 @@
 // Runs the block examples (RULES 7.4) over read and write, with more for the order of the checks and their notes (RULES 5.3), and prints what it found:
 // the block or the terms, the four numbers, and the whole lent buffer. The buffer holds 9 or ee in every place before the call.
+#![tactic(auto)]
+
 use show::{fill, print_answer, print_bytes, print_words, starts_with, text};
 
 fn read_into(block: &[u8], out: &mut [u64]) {

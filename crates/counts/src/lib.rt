@@ -1,5 +1,7 @@
 // Counting for all variables at once: plane j of a list of planes holds bit j of every variable's counter. A plane is a set of variables
 // and written as a term is.
+#![tactic(auto)]
+
 ghost use Rattle.std.specs.Prelude.{◌≡◌, [], ◌∷◌, false, ℕ, ◌+◌, ◌*◌, ◌≤◌, ◌^◌, replicate, length, drop};
 ghost use Rattle.masks.specs.Bit.{bit};
 ghost use Rattle.narrow.specs.Numbers.{value, numbers};
@@ -8,7 +10,7 @@ ghost use Rattle.counts.specs.Planes.{digit, count_at, holding, halves, Room, Ad
 use narrow::Term;
 
 // In each place, a sum of bits: low, and twice high.
-#[derive(Drop)]
+#[derive(Clone, Copy)]
 pub struct Sum {
     pub low: Term,
     pub high: Term,
@@ -49,7 +51,7 @@ fn add_two(f: &[u64], x: Term, i: usize, ones: Term) -> Sum
 }
 
 // The low planes after four terms, and what they carry on.
-#[derive(Drop)]
+#[derive(Clone, Copy)]
 pub struct Fours {
     pub ones: Term,
     pub twos: Term,
@@ -73,7 +75,7 @@ fn add_four(f: &[u64], x: Term, i: usize, ones: Term, twos: Term) -> Fours
 }
 
 // The low planes after eight terms, and what they carry on.
-#[derive(Drop)]
+#[derive(Clone, Copy)]
 pub struct Eights {
     pub ones: Term,
     pub twos: Term,
@@ -120,7 +122,7 @@ fn carry(planes: &mut [u64], at: usize, word: Term)
 }
 
 // The low planes after sixteen terms, and what they carry on.
-#[derive(Drop)]
+#[derive(Clone, Copy)]
 pub struct Sixteens {
     pub ones: Term,
     pub twos: Term,

@@ -8,13 +8,13 @@ use native.Mathlib.Omega.{arith}
 use lib.ListN.{length}
 use Rattle.ring.specs.Same.{SameProducts}
 use Rattle.ring.specs.Run.{Decides, Run}
-use Rattle.ring.proofs.Series.{nought, laws}
+use Rattle.ring.proofs.Series.{laws}
 use Rattle.ring.proofs.Ratio.{ratio_trans, ratio_sym}
 use Rattle.ring.proofs.Value.{value}
 use Rattle.ring.proofs.Cases.{mirror, exchange_right, equations_stable, equations_one_way, other_way}
 use Rattle.ring.proofs.Bridge.{same_from_equal, equal_from_same}
 use Rattle.ring.proofs.Runs.{run_nonzero}
-use Rattle.cross.specs.Asked.{Runs, Joined, Ratios, OneRatio, Whole, Eight, Agree, Stands}
+use Rattle.cross.specs.Asked.{Joined, Ratios, OneRatio, Whole, Eight, Agree, Stands}
 use Rattle.cross.proofs.Uncut.{decides_by, decided_yes, decided_no, same_swapped}
 use Rattle.cross.proofs.Halved.{Three, three_of, joined_of}
 

@@ -4,6 +4,8 @@
 // its terms only the bits below k are looked at.
 // Which questions are asked, and in which order, decides between milliseconds and minutes: the smaller equation comes first,
 // equal ratios are asked along a tree from the smallest, and constant variables are skipped at once by a mask.
+#![tactic(auto)]
+
 ghost use Rattle.std.specs.Prelude.{◌≡◌, suc, ◌≤◌, ◌<◌, length};
 ghost use Rattle.wide.specs.Numbers.{numbers, lines};
 ghost use Rattle.ring.specs.Same.{SameProducts};
@@ -13,7 +15,7 @@ ghost use Rattle.runs.specs.Read.{shape};
 ghost use Rattle.cross.specs.Asked.{Runs, Halves, Joined, Ratios, OneRatio, Whole, Both, Eight, Agree, Stands};
 
 // The four-list test: whether AD = BC, on the variables below k.
-#[cycle(against_agree_both_compared_cross_halves_opposed_ratios_same_settle_skip_stand_unlike_whole)]
+#[cycle(tests)]
 pub fn same(a: &[u64], d: &[u64], b: &[u64], c: &[u64], k: u64) -> bool
     requires { (k ≤ lines) × Runs k (numbers a.now) (numbers d.now) (numbers b.now) (numbers c.now) }
     ensures { Decides result (SameProducts k (numbers a.now) (numbers d.now) (numbers b.now) (numbers c.now)) }
@@ -28,7 +30,7 @@ pub fn same(a: &[u64], d: &[u64], b: &[u64], c: &[u64], k: u64) -> bool
 }
 
 // The same, where no list is empty: with one term on each side the others match in order.
-#[cycle(against_agree_both_compared_cross_halves_opposed_ratios_same_settle_skip_stand_unlike_whole)]
+#[cycle(tests)]
 fn settle(a: &[u64], d: &[u64], b: &[u64], c: &[u64], k: u64) -> bool
     requires { (k ≤ lines) × Four k (numbers a.now) (numbers d.now) (numbers b.now) (numbers c.now) }
     ensures { Decides result (SameProducts k (numbers a.now) (numbers d.now) (numbers b.now) (numbers c.now)) }
@@ -53,7 +55,7 @@ fn settle(a: &[u64], d: &[u64], b: &[u64], c: &[u64], k: u64) -> bool
 }
 
 // The same without the constant variables on top, which stand equally often on either side or refuse.
-#[cycle(against_agree_both_compared_cross_halves_opposed_ratios_same_settle_skip_stand_unlike_whole)]
+#[cycle(tests)]
 fn skip(a: &[u64], d: &[u64], b: &[u64], c: &[u64], k: u64) -> bool
     requires { (k ≤ lines) × Four k (numbers a.now) (numbers d.now) (numbers b.now) (numbers c.now) }
     ensures { Decides result (SameProducts k (numbers a.now) (numbers d.now) (numbers b.now) (numbers c.now)) }
@@ -66,7 +68,7 @@ fn skip(a: &[u64], d: &[u64], b: &[u64], c: &[u64], k: u64) -> bool
 }
 
 // The same: a list that stands on both sides leaves a comparison, and else the lists are cut.
-#[cycle(against_agree_both_compared_cross_halves_opposed_ratios_same_settle_skip_stand_unlike_whole)]
+#[cycle(tests)]
 fn unlike(a: &[u64], d: &[u64], b: &[u64], c: &[u64], k: u64) -> bool
     requires { (k ≤ lines) × Four k (numbers a.now) (numbers d.now) (numbers b.now) (numbers c.now) }
     ensures { Decides result (SameProducts k (numbers a.now) (numbers d.now) (numbers b.now) (numbers c.now)) }
@@ -84,7 +86,7 @@ fn unlike(a: &[u64], d: &[u64], b: &[u64], c: &[u64], k: u64) -> bool
 }
 
 // The cross test: the lists are cut at their highest variable k, and the halves are asked about.
-#[cycle(against_agree_both_compared_cross_halves_opposed_ratios_same_settle_skip_stand_unlike_whole)]
+#[cycle(tests)]
 fn cross(a: &[u64], d: &[u64], b: &[u64], c: &[u64], k: u64) -> bool
     requires { (k < lines) × Four (suc k) (numbers a.now) (numbers d.now) (numbers b.now) (numbers c.now) }
     ensures { Decides result (SameProducts (suc k) (numbers a.now) (numbers d.now) (numbers b.now) (numbers c.now)) }
@@ -107,7 +109,7 @@ fn cross(a: &[u64], d: &[u64], b: &[u64], c: &[u64], k: u64) -> bool
 }
 
 // The two sides must have the same shapes: operands of one shape are set against each other.
-#[cycle(against_agree_both_compared_cross_halves_opposed_ratios_same_settle_skip_stand_unlike_whole)]
+#[cycle(tests)]
 fn halves(
     a0: &[u64],
     a1: &[u64],
@@ -138,7 +140,7 @@ fn halves(
 }
 
 // A and B have one shape, D and C another or the same: three ratios, or four where all halves are there.
-#[cycle(against_agree_both_compared_cross_halves_opposed_ratios_same_settle_skip_stand_unlike_whole)]
+#[cycle(tests)]
 fn opposed(
     a0: &[u64],
     a1: &[u64],
@@ -150,8 +152,8 @@ fn opposed(
     c1: &[u64],
     k: u64,
 ) -> bool
-    requires k_lt_lines { (k < lines) × Halves k (numbers a0.now) (numbers a1.now) (numbers d0.now) (numbers d1.now) (numbers b0.now) (numbers b1.now) (numbers c0.now) (numbers c1.now) }
-    requires a1_value { (shape (numbers a0.now) (numbers a1.now) ≡ shape (numbers b0.now) (numbers b1.now)) × (shape (numbers d0.now) (numbers d1.now) ≡ shape (numbers c0.now) (numbers c1.now)) }
+    requires halved { (k < lines) × Halves k (numbers a0.now) (numbers a1.now) (numbers d0.now) (numbers d1.now) (numbers b0.now) (numbers b1.now) (numbers c0.now) (numbers c1.now) }
+    requires same_shapes { (shape (numbers a0.now) (numbers a1.now) ≡ shape (numbers b0.now) (numbers b1.now)) × (shape (numbers d0.now) (numbers d1.now) ≡ shape (numbers c0.now) (numbers c1.now)) }
     ensures { Decides result (Joined k (numbers a0.now) (numbers a1.now) (numbers d0.now) (numbers d1.now) (numbers b0.now) (numbers b1.now) (numbers c0.now) (numbers c1.now)) }
 {
     if wide::count(a1) == 0 {
@@ -170,7 +172,7 @@ fn opposed(
 }
 
 // Whether three ratios are one: the smallest is asked against the other two. Of equally small ones the first comes last.
-#[cycle(against_agree_both_compared_cross_halves_opposed_ratios_same_settle_skip_stand_unlike_whole)]
+#[cycle(tests)]
 fn ratios(p1: &[u64], q1: &[u64], p2: &[u64], q2: &[u64], p3: &[u64], q3: &[u64], k: u64) -> bool
     requires { (k < lines) × Ratios k (numbers p1.now) (numbers q1.now) (numbers p2.now) (numbers q2.now) (numbers p3.now) (numbers q3.now) }
     ensures { Decides result (OneRatio k (numbers p1.now) (numbers q1.now) (numbers p2.now) (numbers q2.now) (numbers p3.now) (numbers q3.now)) }
@@ -194,7 +196,7 @@ fn ratios(p1: &[u64], q1: &[u64], p2: &[u64], q2: &[u64], p3: &[u64], q3: &[u64]
 }
 
 // A ratio against two others, the smaller of them first.
-#[cycle(against_agree_both_compared_cross_halves_opposed_ratios_same_settle_skip_stand_unlike_whole)]
+#[cycle(tests)]
 fn against(p1: &[u64], q1: &[u64], p2: &[u64], q2: &[u64], p3: &[u64], q3: &[u64], k: u64) -> bool
     requires { (k < lines) × Ratios k (numbers p1.now) (numbers q1.now) (numbers p2.now) (numbers q2.now) (numbers p3.now) (numbers q3.now) }
     ensures { Decides result (OneRatio k (numbers p1.now) (numbers q1.now) (numbers p2.now) (numbers q2.now) (numbers p3.now) (numbers q3.now)) }
@@ -206,7 +208,7 @@ fn against(p1: &[u64], q1: &[u64], p2: &[u64], q2: &[u64], p3: &[u64], q3: &[u64
 }
 
 // Two questions, the first one first.
-#[cycle(against_agree_both_compared_cross_halves_opposed_ratios_same_settle_skip_stand_unlike_whole)]
+#[cycle(tests)]
 fn both(
     a1: &[u64],
     d1: &[u64],
@@ -218,8 +220,8 @@ fn both(
     c0: &[u64],
     k: u64,
 ) -> bool
-    requires k_lt_lines { (k < lines) × Runs k (numbers a1.now) (numbers d1.now) (numbers b1.now) (numbers c1.now) }
-    requires runs { Runs k (numbers a0.now) (numbers d0.now) (numbers b0.now) (numbers c0.now) }
+    requires first_runs { (k < lines) × Runs k (numbers a1.now) (numbers d1.now) (numbers b1.now) (numbers c1.now) }
+    requires second_runs { Runs k (numbers a0.now) (numbers d0.now) (numbers b0.now) (numbers c0.now) }
     ensures { Decides result (Both k (numbers a0.now) (numbers a1.now) (numbers d0.now) (numbers d1.now) (numbers b0.now) (numbers b1.now) (numbers c0.now) (numbers c1.now)) }
 {
     if same(a1, d1, b1, c1, k) {
@@ -229,7 +231,7 @@ fn both(
 }
 
 // All eight halves are there: the smaller of the two outer equations is to be asked first.
-#[cycle(against_agree_both_compared_cross_halves_opposed_ratios_same_settle_skip_stand_unlike_whole)]
+#[cycle(tests)]
 fn whole(
     a0: &[u64],
     a1: &[u64],
@@ -254,7 +256,7 @@ fn whole(
 
 // Whether the four ratios A / B and C / D of the halves are one, or the four ratios A / C and B / D are. The first question belongs to
 // both; where the ratios without the variable differ neither can be.
-#[cycle(against_agree_both_compared_cross_halves_opposed_ratios_same_settle_skip_stand_unlike_whole)]
+#[cycle(tests)]
 fn agree(
     a0: &[u64],
     a1: &[u64],
@@ -286,7 +288,7 @@ fn agree(
 }
 
 // How A1 / B1 stands to A0 / B0 and C0 / D0: the smaller of it and C1 / D1, which are one, is held against these.
-#[cycle(against_agree_both_compared_cross_halves_opposed_ratios_same_settle_skip_stand_unlike_whole)]
+#[cycle(tests)]
 fn stand(
     a0: &[u64],
     a1: &[u64],
@@ -298,7 +300,7 @@ fn stand(
     c1: &[u64],
     k: u64,
 ) -> u64
-    requires k_lt_lines { (k < lines) × Eight k (numbers a0.now) (numbers a1.now) (numbers d0.now) (numbers d1.now) (numbers b0.now) (numbers b1.now) (numbers c0.now) (numbers c1.now) }
+    requires eight_runs { (k < lines) × Eight k (numbers a0.now) (numbers a1.now) (numbers d0.now) (numbers d1.now) (numbers b0.now) (numbers b1.now) (numbers c0.now) (numbers c1.now) }
     requires same_products { SameProducts k (numbers a1.now) (numbers d1.now) (numbers b1.now) (numbers c1.now) }
     ensures { Stands result k (numbers a1.now) (numbers b1.now) (numbers a0.now) (numbers b0.now) (numbers c0.now) (numbers d0.now) }
 {
@@ -309,10 +311,10 @@ fn stand(
 }
 
 // How a ratio stands to two others: 2 if the three are one, 1 if it is the first of the two alone, 0 if it is not even that.
-#[cycle(against_agree_both_compared_cross_halves_opposed_ratios_same_settle_skip_stand_unlike_whole)]
+#[cycle(tests)]
 fn compared(p1: &[u64], q1: &[u64], p2: &[u64], q2: &[u64], p3: &[u64], q3: &[u64], k: u64) -> u64
-    requires k_lt_lines { (k < lines) × Ratios k (numbers p1.now) (numbers q1.now) (numbers p2.now) (numbers q2.now) (numbers p3.now) (numbers q3.now) }
-    requires nonzero { 0 < length (numbers q2.now) }
+    requires three_ratios { (k < lines) × Ratios k (numbers p1.now) (numbers q1.now) (numbers p2.now) (numbers q2.now) (numbers p3.now) (numbers q3.now) }
+    requires q2_nonempty { 0 < length (numbers q2.now) }
     ensures { Stands result k (numbers p1.now) (numbers q1.now) (numbers p2.now) (numbers q2.now) (numbers p3.now) (numbers q3.now) }
 {
     if same(p1, q2, q1, p2, k) {

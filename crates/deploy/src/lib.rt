@@ -1,5 +1,7 @@
 // Deploy (RULES 15): the lists of a whole deployment, split in turn. Each is given the room that earlier ones left, and its answer stands among
 // the answers.
+#![tactic(auto)]
+
 ghost use Rattle.std.specs.Prelude.{◌+◌, ◌≤◌, ◌<◌, ◌^◌, ◌≡◌, ◌∷◌, [], ◌++◌, length, drop};
 ghost use Rattle.answer.specs.Table.{numbers_of};
 ghost use Rattle.answer.specs.Checked.{Passed, Checked};
@@ -17,7 +19,7 @@ pub const MAX_BOARDS: usize = 64;
 pub const ANSWER: usize = 4;
 
 // How many words of part terms and how many part lengths are filled.
-#[derive(Drop)]
+#[derive(Clone, Copy)]
 pub struct Filled {
     pub terms: usize,
     pub parts: usize,
@@ -32,11 +34,10 @@ pub fn deploy(
     part_lengths: &mut [u64],
     work: &mut [u64],
 ) -> Outcome
-    ensures* { do
-      ⌜ DeployEnds (← (⟦MAX_BOARDS⟧).entry) (← (⟦TermList::MAX_TERMS⟧).entry) (← (⟦TermList::MAX_VARS⟧).entry) words.now lengths.now
-          (record { answers = answers.entry.now; outputs = record { terms = part_terms.old; lengths = part_lengths.old; work = work.old } })
-          (numbers_of result)
-          (record { answers = answers.exit.now; outputs = record { terms = part_terms.new; lengths = part_lengths.new; work = work.new } }) ⌝ }
+    ensures { DeployEnds MAX_BOARDS TermList.MAX_TERMS TermList.MAX_VARS words.now lengths.now
+        (record { answers = answers.old; outputs = record { terms = part_terms.old; lengths = part_lengths.old; work = work.old } })
+        (numbers_of result)
+        (record { answers = answers.new; outputs = record { terms = part_terms.new; lengths = part_lengths.new; work = work.new } }) }
 {
     let verdict = checks(words.len(), lengths, answers.len());
     if answer::refuses(verdict) {
@@ -72,11 +73,10 @@ fn in_turn(
     work: &mut [u64],
 ) -> usize
     requires { Passed (deploy_checks MAX_BOARDS (length words.now) lengths.now (length answers.old)) }
-    ensures* { do
-      ⌜ Deployed (← (⟦TermList::MAX_TERMS⟧).entry) (← (⟦TermList::MAX_VARS⟧).entry) (cut lengths.now words.now)
-          (record { answers = answers.entry.now; outputs = record { terms = part_terms.old; lengths = part_lengths.old; work = work.old } })
-          result
-          (record { answers = answers.exit.now; outputs = record { terms = part_terms.new; lengths = part_lengths.new; work = work.new } }) ⌝ }
+    ensures { Deployed TermList.MAX_TERMS TermList.MAX_VARS (cut lengths.now words.now)
+        (record { answers = answers.old; outputs = record { terms = part_terms.old; lengths = part_lengths.old; work = work.old } })
+        result
+        (record { answers = answers.new; outputs = record { terms = part_terms.new; lengths = part_lengths.new; work = work.new } }) }
 {
     let n = lengths.len();
     let mut at = 0;
@@ -117,12 +117,11 @@ fn board(
     work: &mut [u64],
 ) -> Filled
     requires { (at + ANSWER ≤ length answers.old) × (terms ≤ length part_terms.old) × (parts ≤ length part_lengths.old) }
-    ensures* { do
-      ⌜ Turned (← (⟦TermList::MAX_TERMS⟧).entry) (← (⟦TermList::MAX_VARS⟧).entry) list.now at terms parts answers.old
-          (record { terms = part_terms.old; lengths = part_lengths.old; work = work.old })
-          answers.new
-          (record { terms = part_terms.new; lengths = part_lengths.new; work = work.new })
-          result.terms result.parts ⌝ }
+    ensures { Turned TermList.MAX_TERMS TermList.MAX_VARS list.now at terms parts answers.old
+        (record { terms = part_terms.old; lengths = part_lengths.old; work = work.old })
+        answers.new
+        (record { terms = part_terms.new; lengths = part_lengths.new; work = work.new })
+        result.terms result.parts }
 {
     let said = split(list, part_terms, terms, part_lengths, parts, work);
     tell(&mut answers[at..], said);
@@ -144,11 +143,10 @@ fn split(
     work: &mut [u64],
 ) -> Answer
     requires { (terms ≤ length part_terms.old) × (parts ≤ length part_lengths.old) }
-    ensures* { do
-      ⌜ SplitBehind (← (⟦TermList::MAX_TERMS⟧).entry) (← (⟦TermList::MAX_VARS⟧).entry) list.now terms parts
-          (record { terms = part_terms.old; lengths = part_lengths.old; work = work.old })
-          result
-          (record { terms = part_terms.new; lengths = part_lengths.new; work = work.new }) ⌝ }
+    ensures { SplitBehind TermList.MAX_TERMS TermList.MAX_VARS list.now terms parts
+        (record { terms = part_terms.old; lengths = part_lengths.old; work = work.old })
+        result
+        (record { terms = part_terms.new; lengths = part_lengths.new; work = work.new }) }
 {
     answer::numbers(parts::split(
         list,

@@ -1,5 +1,7 @@
 // Numbers written in digits: a field of bits read from a row of bytes, and bits put behind those already written
 // (RULES 4.1). Both go byte by byte.
+#![tactic(auto)]
+
 ghost use Rattle.std.specs.Prelude.{◌≡◌, ℕ, ◌+◌, ◌-◌, ◌*◌, ◌/◌, ◌%◌, ◌^◌, ◌≤◌, ◌<◌, length};
 ghost use Rattle.digits.specs.Number.{bits};
 ghost use Rattle.digits.specs.Carry.{Put};

@@ -8,7 +8,7 @@ use super::calls;
 // How far a line is read: where it begins, and where what is printed of it ends; a number, if there is one, the start of the run that it
 // ends, if there is one, and the run's step; how many words there are, and where the last four lists end among them, a number outside
 // of a list being one too.
-#[derive(Drop)]
+#[derive(Clone, Copy)]
 pub struct Reading {
     pub start: usize,
     pub end: usize,

@@ -1,6 +1,8 @@
 // Growing a part: from one variable to the variables of its part. What the counts put with a variable is with it at once. Then
 // what agrees with the first term, on y and outside, is picked, and the list is held against the product of the two picks: there is no
 // difference, and y is the part; or the first difference says which variables belong to y as well.
+#![tactic(auto)]
+
 ghost use Rattle.std.specs.Prelude.{◌≡◌, ◌+◌, ◌≤◌, ◌<◌, length, take, drop};
 ghost use Rattle.std.specs.Int.Bits.{bit_and};
 ghost use Rattle.polys.specs.List.{Asc};
@@ -87,7 +89,7 @@ fn counted(work: &[u64], n: usize, alone: &[u64], x: Term, y: Term, w: Term) -> 
 }
 
 // How many terms were picked for the part, and for the rest.
-#[derive(Drop)]
+#[derive(Clone, Copy)]
 pub struct Counts {
     pub part: usize,
     pub rest: usize,
@@ -139,7 +141,7 @@ fn lay_whole(work: &mut [u64], n: usize) -> Counts
 }
 
 // What one step finds: y is the whole part, with the part and the rest laid out; or it has to grow.
-#[derive(Drop)]
+#[derive(Clone, Copy)]
 pub enum Step {
     Whole { part: usize, rest: usize },
     Grow { more: Term },
@@ -173,7 +175,7 @@ fn one_step(work: &mut [u64], n: usize, alone: &[u64], y: Term, all: Term) -> St
 }
 
 // The variables of a part, with the part and the rest laid out.
-#[derive(Drop)]
+#[derive(Clone, Copy)]
 pub struct Found {
     pub y: Term,
     pub part: usize,

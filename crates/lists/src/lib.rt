@@ -1,5 +1,7 @@
 // Lists that are lent one behind the other (RULES 13.2, 15.2): whether there are too many of them, and whether their lengths add to the words
 // that were lent.
+#![tactic(auto)]
+
 ghost use Rattle.answer.specs.Table.{numbers_of};
 ghost use Rattle.answer.specs.Checked.{Checked};
 ghost use Rattle.lists.specs.Lists.{lent_checks};

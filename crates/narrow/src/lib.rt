@@ -1,5 +1,7 @@
 // A term in one word, and lists of terms in words: the smaller of the two sizes. The larger one, two words to a term, has the same
 // names and the same contracts, so that whatever is written against the one is written against the other.
+#![tactic(auto)]
+
 ghost use Rattle.std.specs.Prelude.{◌≡◌, ◌+◌, ◌-◌, ◌*◌, ◌%◌, ◌^◌, ◌≤◌, ◌<◌, ltb, eqb, length, get_or, set};
 ghost use Rattle.std.specs.Int.Bits.{bit_and, bit_or, bit_xor};
 ghost use Rattle.digits.specs.Number.{bits};
@@ -9,7 +11,7 @@ ghost use Rattle.masks.specs.Width.{width};
 ghost use Rattle.narrow.specs.Numbers.{value, numbers, room, lines};
 
 // A term: the set of its variables. A set of variables is written the same way.
-#[derive(Drop)]
+#[derive(Clone, Copy)]
 pub struct Term {
     pub bits: u64,
 }

@@ -1,5 +1,7 @@
 // The bits of a block (RULES 4): its terms read and written one behind the other, and what read's checks ask of them. Nothing here
 // refuses; each function asks that the bits are there.
+#![tactic(auto)]
+
 ghost use Rattle.std.specs.Prelude.{◌≡◌, ◌+◌, ◌*◌, ◌^◌, ◌≤◌, ◌<◌, ◌++◌, length, drop};
 ghost use Rattle.polys.specs.List.{Asc};
 ghost use Rattle.terms.specs.Order.{unordered};

@@ -1,5 +1,7 @@
 // The papers' rule, callable (RULES 8): whether two variables lie in one part of an equation, found by forming the four lists
 // of the second paper and asking *same products*. That the answer speaks of the parts that split gives is a theorem (crate rule).
+#![tactic(auto)]
+
 ghost use Rattle.std.specs.Prelude.{◌≡◌, not, ◌+◌, ◌*◌, ◌≤◌, ◌<◌, length};
 ghost use Rattle.masks.specs.Bit.{bit};
 ghost use Rattle.polys.specs.Poly.{vars};
@@ -31,7 +33,7 @@ fn select(list: &[u64], fixed: u64, value: u64, out: &mut [u64], at: usize) -> u
 }
 
 // Where the four lists end that lie one after another.
-#[derive(Drop)]
+#[derive(Clone, Copy)]
 pub struct FourEnds {
     pub a: usize,
     pub b: usize,
@@ -54,7 +56,7 @@ fn lay_out(list: &[u64], x: u64, y: u64, room: &mut [u64]) -> FourEnds
 
 // The question itself: if AD = BC, no part holds both variables.
 fn ask(list: &[u64], x: u64, y: u64, room: &mut [u64]) -> u64
-    requires* { do ⌜ Askable (← ⟦TermList::MAX_TERMS⟧) (← ⟦TermList::MAX_VARS⟧) list.now x y (length room.old) ⌝ }
+    requires { Askable TermList.MAX_TERMS TermList.MAX_VARS list.now x y (length room.old) }
     ensures { Tells list.now x y room.old result room.new }
 {
     let ends = lay_out(list, 1 << x, 1 << y, room);
@@ -92,7 +94,7 @@ fn lacks(list: &[u64], x: u64) -> bool
 
 // What is refused, in the order of the rules.
 fn checks(list: &[u64], x: u64, y: u64, room: usize) -> Outcome
-    ensures* { do ⌜ Checked (together_checks (← (⟦TermList::MAX_TERMS⟧).entry) list.now x y room) (numbers_of result) ⌝ }
+    ensures { Checked (together_checks TermList.MAX_TERMS list.now x y room) (numbers_of result) }
 {
     let t = list.len();
     if TermList::MAX_TERMS < t {
@@ -124,8 +126,7 @@ fn checks(list: &[u64], x: u64, y: u64, room: usize) -> Outcome
 
 // Whether the variables x and y lie in one part of the equation: count 1 if they do, 0 if not. The room then holds the four lists.
 pub fn together(list: &[u64], x: u64, y: u64, room: &mut [u64]) -> Outcome
-    ensures* { do
-      ⌜ TogetherEnds (← (⟦TermList::MAX_TERMS⟧).entry) list.now x y room.old (numbers_of result) room.new ⌝ }
+    ensures { TogetherEnds TermList.MAX_TERMS list.now x y room.old (numbers_of result) room.new }
 {
     let verdict = checks(list, x, y, room.len());
     if answer::refuses(verdict) {

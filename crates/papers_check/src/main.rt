@@ -1,13 +1,17 @@
 // Compares, for every two different variables of a list, what the papers' rule answers with what split gives: whether they lie in one part.
 // A line for each list: its terms, the pairs asked about, how many of them lie in one part by split, and on how many the two ways differ; a pair
 // on which they differ is printed before it. Then what is refused, with the room after each question.
+#![tactic(auto)]
+
 ghost use Rattle.std.specs.Prelude.{◌<◌};
 
-use libc::STDOUT_FILENO;
 use terms::TermList;
 
+// The number of standard output.
+const STDOUT: i32 = 1;
+
 // What was counted: pairs asked about, those in one part, those where the two ways differ.
-#[derive(Drop)]
+#[derive(Clone, Copy)]
 pub struct Tally {
     pub pairs: u64,
     pub one: u64,
@@ -15,11 +19,11 @@ pub struct Tally {
 }
 
 fn text(t: &[u8]) {
-    io::write_all(STDOUT_FILENO, t);
+    io::write_all(STDOUT, t);
 }
 
 fn number(n: u64) {
-    io::print_decimal(STDOUT_FILENO, n);
+    io::print_decimal(STDOUT, n);
 }
 
 // The number, from 0, of the part that holds the variable; or the number of parts.

@@ -1,6 +1,8 @@
 // Made from crates/parts/src/lib.rt by scripts/second-size, and not to be edited.
 // Split (RULES 2.5, 5.3, 5.4): checks the equation and the lent buffers, then lets its parts be taken out one by one and laid back to
 // back in the lent buffer.
+#![tactic(auto)]
+
 ghost use Rattle.std.specs.Prelude.{length};
 ghost use Rattle.answer.specs.Table.{numbers_of};
 ghost use Rattle.answer.specs.Checked.{Passed, Checked};
@@ -17,9 +19,8 @@ fn take_apart(
     part_lengths: &mut [u64],
     work: &mut [u64],
 ) -> usize
-    requires* { do
-      ⌜ Passed (split_checks (← ⟦TermList::MAX_TERMS⟧) (← ⟦TermList::MAX_VARS⟧) (numbers list.now)
-          (length (numbers part_terms.old)) (length part_lengths.old) (length (numbers work.old))) ⌝ }
+    requires { Passed (split_checks TermList.MAX_TERMS TermList.MAX_VARS (numbers list.now)
+        (length (numbers part_terms.old)) (length part_lengths.old) (length (numbers work.old))) }
     ensures { Splits (numbers list.now)
         (record { terms = numbers part_terms.old; lengths = part_lengths.old; work = numbers work.old })
         result
@@ -36,9 +37,8 @@ fn take_apart(
 // What is refused, in the order of the rules; the last three are the terms that fit the room for part terms, the part lengths lent, and the terms that
 // fit the work area.
 fn checks(list: &[u64], room: usize, lengths: usize, work: usize) -> Outcome
-    ensures* { do
-      ⌜ Checked (split_checks (← (⟦TermList::MAX_TERMS⟧).entry) (← (⟦TermList::MAX_VARS⟧).entry) (numbers list.now) room lengths work)
-          (numbers_of result) ⌝ }
+    ensures { Checked (split_checks TermList.MAX_TERMS TermList.MAX_VARS (numbers list.now) room lengths work)
+        (numbers_of result) }
 {
     let t = wide::count(list);
     if TermList::MAX_TERMS < t {
@@ -73,11 +73,10 @@ pub fn split(
     part_lengths: &mut [u64],
     work: &mut [u64],
 ) -> Outcome
-    ensures* { do
-      ⌜ SplitEnds (← (⟦TermList::MAX_TERMS⟧).entry) (← (⟦TermList::MAX_VARS⟧).entry) (numbers list.now)
-          (record { terms = numbers part_terms.old; lengths = part_lengths.old; work = numbers work.old })
-          (numbers_of result)
-          (record { terms = numbers part_terms.new; lengths = part_lengths.new; work = numbers work.new }) ⌝ }
+    ensures { SplitEnds TermList.MAX_TERMS TermList.MAX_VARS (numbers list.now)
+        (record { terms = numbers part_terms.old; lengths = part_lengths.old; work = numbers work.old })
+        (numbers_of result)
+        (record { terms = numbers part_terms.new; lengths = part_lengths.new; work = numbers work.new }) }
 {
     let room = wide::count(part_terms);
     let spare = wide::count(work);

@@ -1,6 +1,6 @@
 -- The parts of a polynomial (RULES 2.5): irreducible lists, no variable in two of them, whose product it is, in order by their
 -- lowest variable.
-use Rattle.std.specs.Prelude.{ℕ, ◌<◌, ◌≤◌, ◌≡◌, Bool, true, false, List, [], ◌∷◌}
+use Rattle.std.specs.Prelude.{ℕ, ◌≤◌, ◌≡◌, true, false, List, [], ◌∷◌}
 use Rattle.masks.specs.Bit.{bit}
 use Rattle.polys.specs.List.{Asc}
 use Rattle.polys.specs.Poly.{vars, times, Apart, Irreducible}

@@ -4,7 +4,6 @@ use Prim.Native.Nat.{ℕ, ◌*◌, ◌<◌, ◌≤◌}
 use native.Mathlib.Nat.{mul_comm}
 use native.Mathlib.Omega.{arith}
 use mathlib.Core.Path.{◌≡◌, refl, sym, ap, ◌∙◌, subst}
-use mathlib.Core.Bool.{not}
 use mathlib.Core.List.{List, [], ◌∷◌}
 use borrow.Author.Tests.{le-ltb}
 use lib.Bits.{bit_or}

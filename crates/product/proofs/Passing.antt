@@ -13,7 +13,7 @@ use Rattle.answer.specs.declared.Answer.{Answer}
 use Rattle.answer.specs.Checked.{Passed, Checked}
 use Rattle.answer.proofs.Checking.{equal_if_passed}
 use Rattle.polys.specs.List.{Asc}
-use Rattle.polys.specs.Poly.{vars, times, Apart}
+use Rattle.polys.specs.Poly.{times, Apart}
 use Rattle.polys.proofs.Counts.{length_times}
 use Rattle.terms.proofs.Order.{ascends_if_passed}
 use Rattle.product.specs.Multiply.{multiply_checks}

@@ -1,6 +1,8 @@
 // Made from crates/product/src/lib.rt by scripts/second-size, and not to be edited.
 // Multiply (RULES 2.1): the product of two term lists that share no variable. Two lists that pass the checks are handed to
 // `unions`, which writes their product in ascending order at once.
+#![tactic(auto)]
+
 ghost use Rattle.std.specs.Prelude.{◌*◌, ◌≤◌, ◌≡◌, length};
 ghost use Rattle.polys.specs.Poly.{times};
 ghost use Rattle.answer.specs.Table.{numbers_of};
@@ -14,7 +16,7 @@ use terms2::TermList;
 
 // The product of two polynomials that share no variable, into a lent room for as many terms as it has.
 pub fn multiply(a: &[u64], b: &[u64], out: &mut [u64]) -> Outcome
-    ensures* { do ⌜ MultiplyEnds (← (⟦TermList::MAX_TERMS⟧).entry) (numbers a.now) (numbers b.now) (numbers out.old) (numbers_of result) (numbers out.new) ⌝ }
+    ensures { MultiplyEnds TermList.MAX_TERMS (numbers a.now) (numbers b.now) (numbers out.old) (numbers_of result) (numbers out.new) }
 {
     let verdict = checks(a, b, wide::count(out));
     if answer::refuses(verdict) {
@@ -26,7 +28,7 @@ pub fn multiply(a: &[u64], b: &[u64], out: &mut [u64]) -> Outcome
 
 // What is refused, in the order of the rules.
 fn checks(a: &[u64], b: &[u64], room: usize) -> Outcome
-    ensures* { do ⌜ Checked (multiply_checks (← (⟦TermList::MAX_TERMS⟧).entry) (numbers a.now) (numbers b.now) room) (numbers_of result) ⌝ }
+    ensures { Checked (multiply_checks TermList.MAX_TERMS (numbers a.now) (numbers b.now) room) (numbers_of result) }
 {
     let m = wide::count(a);
     if TermList::MAX_TERMS < m {
@@ -66,7 +68,7 @@ fn checks(a: &[u64], b: &[u64], room: usize) -> Outcome
 
 // How many terms the product of two lists within the limit has, where they share no variable.
 fn product_count(a: &[u64], b: &[u64]) -> usize
-    requires* { do ⌜ (length (numbers a.now) ≤ (← ⟦TermList::MAX_TERMS⟧)) × (length (numbers b.now) ≤ (← ⟦TermList::MAX_TERMS⟧)) ⌝ }
+    requires { (length (numbers a.now) ≤ TermList.MAX_TERMS) × (length (numbers b.now) ≤ TermList.MAX_TERMS) }
     ensures { result ≡ length (numbers a.now) * length (numbers b.now) }
 {
     wide::count(a) * wide::count(b)
@@ -74,7 +76,7 @@ fn product_count(a: &[u64], b: &[u64]) -> usize
 
 // Writes the product of two lists that passed the checks, and counts its terms.
 fn write_product(a: &[u64], b: &[u64], out: &mut [u64]) -> usize
-    requires* { do ⌜ Passed (multiply_checks (← ⟦TermList::MAX_TERMS⟧) (numbers a.now) (numbers b.now) (length (numbers out.old))) ⌝ }
+    requires { Passed (multiply_checks TermList.MAX_TERMS (numbers a.now) (numbers b.now) (length (numbers out.old))) }
     ensures { Writes (times (numbers a.now) (numbers b.now)) (numbers out.old) result (numbers out.new) }
 {
     let count = product_count(a, b);

@@ -41,7 +41,7 @@ powers_add n (suc a) b x y (suc k) =
     ap₂ (plus n)
     (ap (λ (c : Bool). times n (scale n c x) (power n b y (suc k))) (eqb-suc-zero a) ∙ (laws n).zero_mul (power n b y (suc k)))
     (ap (λ (f : R (suc n)). times (suc n) f (power n b y) k) (fun_ext (λ j. ap (λ (c : Bool). scale n c x) (eqb-suc-suc a j))) ∙ powers_add n a b x y k)
-    ∙ (laws n).zero-add (power n (a + b) (times n x y) k)
+    ∙ (laws n).zero_add (power n (a + b) (times n x y) k)
     ∙ ap (λ (c : Bool). scale n c (times n x y)) (sym (ap (λ (d : ℕ). eqb d (suc k)) (suc-add a b) ∙ eqb-suc-suc (a + b) k))
 
 pub join_power : (n : ℕ) (p : Bool) (x : R n) → join n (scale n (not p) x) (scale n p x) ≡ power n (one_if p) x

@@ -12,7 +12,7 @@ use Rattle.polys.specs.List.{either}
 use Rattle.polys.specs.Poly.{vars}
 use Rattle.polys.proofs.Polys.{times_term}
 use Rattle.ring.specs.Run.{lacking, holding}
-use Rattle.ring.proofs.Domain.{Domain, mul_zero, add_zero, add_mul}
+use Rattle.ring.proofs.Domain.{mul_zero, add_zero, add_mul}
 use Rattle.ring.proofs.Series.{R, nought, plus, laws, times as mul}
 use Rattle.ring.proofs.Value.{value, value_none, value_more, Equal}
 use Rattle.ring.proofs.Built.{value_of_built}

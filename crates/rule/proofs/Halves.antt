@@ -14,7 +14,7 @@ use Rattle.polys.proofs.Polys.{onto_mem, onto_asc, off_mem, off_asc, vars_onto, 
 use Rattle.splitting.specs.Mix.{Closed}
 use Rattle.splitting.proofs.Splits.{splits_of_closed}
 use Rattle.ring.specs.Run.{lacking}
-use Rattle.ring.proofs.Domain.{Domain, mul_medial}
+use Rattle.ring.proofs.Domain.{mul_medial}
 use Rattle.ring.proofs.Series.{R, laws, times as mul}
 use Rattle.ring.proofs.Value.{value}
 use Rattle.ring.proofs.Bridge.{same_from_equal}

@@ -1,7 +1,7 @@
 -- The list of p x + q, where neither p nor q holds the variable x: its terms and its value. Leans on ring's values of products.
 use Prim.Native.Nat.{ℕ, ◌^◌, ◌<◌}
 use mathlib.Core.Path.{◌≡◌, refl, sym, ap, ◌∙◌, subst}
-use mathlib.Core.Bool.{true, false, ◌||◌, true≢false}
+use mathlib.Core.Bool.{true, ◌||◌, true≢false}
 use mathlib.Core.List.{List, [], ◌∷◌, ◌++◌}
 use mathlib.Core.Logic.{◌⊎◌, inl, inr, ⊎_elim}
 use lib.Bits.{bit_and, bit_or, or_lt}

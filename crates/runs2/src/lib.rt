@@ -1,6 +1,8 @@
 // Made from crates/runs/src/lib.rt by scripts/second-size, and not to be edited.
 // What the four-list test reads off runs of terms without asking on: which variables are constant, where a run is cut, which lists
 // agree. None of it is recursive. Only the bits below k are read.
+#![tactic(auto)]
+
 ghost use Rattle.std.specs.Prelude.{◌≡◌, ◌+◌, ◌^◌, ◌≤◌, ◌<◌, length};
 ghost use Rattle.wide.specs.Numbers.{value, numbers, room, lines};
 ghost use Rattle.ring.specs.Run.{Decides, Cut, lacking, lows};

@@ -1,5 +1,7 @@
 // Same products (RULES 3): whether AD = BC for any four lists, shared variables included. The lists are checked, then the four-list
 // test of crate cross answers. Nothing is written.
+#![tactic(auto)]
+
 ghost use Rattle.std.specs.Prelude.{◌≡◌};
 ghost use Rattle.answer.specs.Table.{numbers_of};
 ghost use Rattle.answer.specs.Checked.{Passed, Checked};
@@ -11,8 +13,7 @@ use terms::TermList;
 
 // Whether AD = BC: count 1 for yes, 0 for no. The operands are A, D, B, C, in this order.
 pub fn same_products(a: &[u64], d: &[u64], b: &[u64], c: &[u64]) -> Outcome
-    ensures* { do
-      ⌜ SameEnds (← (⟦TermList::MAX_TERMS⟧).entry) (← (⟦TermList::MAX_VARS⟧).entry) (numbers a.now) (numbers d.now) (numbers b.now) (numbers c.now) (numbers_of result) ⌝ }
+    ensures { SameEnds TermList.MAX_TERMS TermList.MAX_VARS (numbers a.now) (numbers d.now) (numbers b.now) (numbers c.now) (numbers_of result) }
 {
     let verdict = checks(a, d, b, c);
     if answer::refuses(verdict) {
@@ -24,8 +25,7 @@ pub fn same_products(a: &[u64], d: &[u64], b: &[u64], c: &[u64]) -> Outcome
 
 // What is refused, in the order of the rules.
 fn checks(a: &[u64], d: &[u64], b: &[u64], c: &[u64]) -> Outcome
-    ensures* { do
-      ⌜ Checked (same_checks (← (⟦TermList::MAX_TERMS⟧).entry) (numbers a.now) (numbers d.now) (numbers b.now) (numbers c.now)) (numbers_of result) ⌝ }
+    ensures { Checked (same_checks TermList.MAX_TERMS (numbers a.now) (numbers d.now) (numbers b.now) (numbers c.now)) (numbers_of result) }
 {
     let in_a = narrow::count(a);
     if TermList::MAX_TERMS < in_a {
@@ -76,8 +76,8 @@ fn checks(a: &[u64], d: &[u64], b: &[u64], c: &[u64]) -> Outcome
 
 // The answer for four lists that passed the checks.
 fn judge(a: &[u64], d: &[u64], b: &[u64], c: &[u64]) -> u64
-    requires* { do ⌜ Passed (same_checks (← ⟦TermList::MAX_TERMS⟧) (numbers a.now) (numbers d.now) (numbers b.now) (numbers c.now)) ⌝ }
-    ensures* { do ⌜ Judged (← (⟦TermList::MAX_VARS⟧).entry) (numbers a.now) (numbers d.now) (numbers b.now) (numbers c.now) result (tt {0}) ⌝ }
+    requires { Passed (same_checks TermList.MAX_TERMS (numbers a.now) (numbers d.now) (numbers b.now) (numbers c.now)) }
+    ensures { Judged TermList.MAX_VARS (numbers a.now) (numbers d.now) (numbers b.now) (numbers c.now) result (tt {0}) }
 {
     let vars = TermList::MAX_VARS as u64;
     let equal = cross::same(a, d, b, c, vars);

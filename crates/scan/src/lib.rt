@@ -1,5 +1,7 @@
 // Text taken for the terms that are written in it, in the order in which they stand there (RULES 12.1 and 12.2). It goes over the text once,
 // variable by variable, and stops at the first byte that shows that the text is refused.
+#![tactic(auto)]
+
 ghost use Rattle.std.specs.Prelude.{◌≡◌, [], ◌≤◌, length, get_or};
 ghost use Rattle.answer.specs.Table.{numbers_of};
 ghost use Rattle.typed.specs.Form.{digit};
@@ -10,14 +12,14 @@ use answer::Outcome;
 use terms::TermList;
 
 // A number and where it ends.
-#[derive(Drop)]
+#[derive(Clone, Copy)]
 struct Found {
     value: u64,
     end: usize,
 }
 
 // What stands at the place of a term.
-#[derive(Drop)]
+#[derive(Clone, Copy)]
 enum Piece {
     // a term, and where it ends
     Read { term: u64, end: usize },
@@ -55,7 +57,7 @@ fn digit_at(text: &[u8], at: usize) -> u64
 // and it ends at the byte that shows it.
 fn number(text: &[u8], at: usize) -> Found
     requires { at ≤ length text.now }
-    ensures* { do ⌜ Counted (← (⟦TermList::MAX_VARS⟧).entry) text.now at result ⌝ }
+    ensures { Counted TermList.MAX_VARS text.now at result }
 {
     let first = digit_at(text, at);
     if 9 < first {
@@ -95,7 +97,7 @@ fn ends_name(byte: u8) -> bool
 // The same of a variable with the byte behind it, where one stands that may.
 fn variable(text: &[u8], at: usize) -> Found
     requires { at ≤ length text.now }
-    ensures* { do ⌜ Ended (← (⟦TermList::MAX_VARS⟧).entry) text.now at result ⌝ }
+    ensures { Ended TermList.MAX_VARS text.now at result }
 {
     let found = number(text, at);
     let end = found.end;
@@ -112,7 +114,7 @@ fn variable(text: &[u8], at: usize) -> Found
 // The term whose first variable's number begins at a place.
 fn product(text: &[u8], from: usize) -> Piece
     requires { from ≤ length text.now }
-    ensures* { do ⌜ Told (← (⟦TermList::MAX_VARS⟧).entry) Always (λ ts. named ts []) text.now from result ⌝ }
+    ensures { Told TermList.MAX_VARS Always (λ ts. named ts []) text.now from result }
 {
     let mut term = 0;
     let mut at = from;
@@ -149,7 +151,7 @@ fn ends_term(byte: u8) -> bool
 // The term `1` that ends at a place.
 fn constant(text: &[u8], end: usize) -> Piece
     requires { end ≤ length text.now }
-    ensures* { do ⌜ Told (← (⟦TermList::MAX_VARS⟧).entry) Always one text.now end result ⌝ }
+    ensures { Told TermList.MAX_VARS Always one text.now end result }
 {
     let behind = byte_at(text, end);
     if ends_term(behind) {
@@ -161,7 +163,7 @@ fn constant(text: &[u8], end: usize) -> Piece
 // The term that begins at a place, where there may be another one.
 fn term(text: &[u8], at: usize) -> Piece
     requires { at ≤ length text.now }
-    ensures* { do ⌜ Told (← (⟦TermList::MAX_VARS⟧).entry) (Another (get_or text.now at 0)) (λ ts. start ts []) text.now at result ⌝ }
+    ensures { Told TermList.MAX_VARS (Another (get_or text.now at 0)) (λ ts. start ts []) text.now at result }
 {
     let byte = byte_at(text, at);
     if byte == b'x' {
@@ -183,7 +185,7 @@ fn begins_term(byte: u8) -> bool
 // The place where a term would begin, if there were room for another one.
 fn full(text: &[u8], at: usize) -> Outcome
     requires { at ≤ length text.now }
-    ensures* { do ⌜ Full (← (⟦TermList::MAX_TERMS⟧).entry) (← (⟦TermList::MAX_VARS⟧).entry) text.now at (numbers_of result) ⌝ }
+    ensures { Full TermList.MAX_TERMS TermList.MAX_VARS text.now at (numbers_of result) }
 {
     let byte = byte_at(text, at);
     if begins_term(byte) {
@@ -195,7 +197,7 @@ fn full(text: &[u8], at: usize) -> Outcome
 // The place behind the line feed, where so many terms have been read.
 fn finish(text: &[u8], at: usize, count: usize) -> Outcome
     requires { at ≤ length text.now }
-    ensures* { do ⌜ Finished (← (⟦TermList::MAX_TERMS⟧).entry) (← (⟦TermList::MAX_VARS⟧).entry) text.now at count (numbers_of result) ⌝ }
+    ensures { Finished TermList.MAX_TERMS TermList.MAX_VARS text.now at count (numbers_of result) }
 {
     if at < text.len() {
         return Outcome::Sign { place: at as u64 };
@@ -207,8 +209,8 @@ fn finish(text: &[u8], at: usize, count: usize) -> Outcome
 
 // The terms of a text that does not begin with `0`, as they are written.
 fn terms(text: &[u8], words: &mut [u64]) -> Outcome
-    requires* { do ⌜ ((← ⟦TermList::MAX_TERMS⟧) ≤ length words.old) × ¬ (get_or text.now 0 0 ≡ digit 0) ⌝ }
-    ensures* { do ⌜ Scanned (← (⟦TermList::MAX_TERMS⟧).entry) (← (⟦TermList::MAX_VARS⟧).entry) text.now words.old (numbers_of result) words.new ⌝ }
+    requires { (TermList.MAX_TERMS ≤ length words.old) × ¬ (get_or text.now 0 0 ≡ digit 0) }
+    ensures { Scanned TermList.MAX_TERMS TermList.MAX_VARS text.now words.old (numbers_of result) words.new }
 {
     let mut count = 0;
     let mut at = 0;
@@ -238,8 +240,8 @@ fn terms(text: &[u8], words: &mut [u64]) -> Outcome
 
 // The terms of a text as they are written, at the start of the words, and how many they are; or the refusal that the text shows.
 pub fn scan(text: &[u8], words: &mut [u64]) -> Outcome
-    requires* { do ⌜ (← ⟦TermList::MAX_TERMS⟧) ≤ length words.old ⌝ }
-    ensures* { do ⌜ Scanned (← (⟦TermList::MAX_TERMS⟧).entry) (← (⟦TermList::MAX_VARS⟧).entry) text.now words.old (numbers_of result) words.new ⌝ }
+    requires { TermList.MAX_TERMS ≤ length words.old }
+    ensures { Scanned TermList.MAX_TERMS TermList.MAX_VARS text.now words.old (numbers_of result) words.new }
 {
     if byte_at(text, 0) != b'0' {
         return terms(text, words);

@@ -1,2 +1,1 @@
-pub mod Counting
 pub mod Starts

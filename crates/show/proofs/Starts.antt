@@ -1,5 +1,5 @@
 -- Comparing a buffer's start with a list, word by word. Assumes nothing.
-use Prim.Native.Nat.{ℕ, zero, suc, ◌+◌, ◌≤◌, ◌<◌}
+use Prim.Native.Nat.{ℕ, suc, ◌+◌, ◌<◌}
 use mathlib.Core.Path.{◌≡◌, refl, sym, ap, ap₂, ◌∙◌}
 use mathlib.Core.Bool.{Bool, true, false, ◌&&◌, and-false}
 use mathlib.Core.List.{List, [], ◌∷◌}
@@ -22,10 +22,10 @@ too_long (y ∷ b) (x ∷ l) h = ap (λ (t : Bool). eqb y x && t) (too_long b l 
 abbrev pub from : List ℕ → List ℕ → ℕ → Bool
 from b l i = starts_with (drop i b) (drop i l)
 
-module _ (b l : List ℕ) (i : ℕ) (in_Buffer : i < length b) (in_List : i < length l) where
+module _ (b l : List ℕ) (i : ℕ) (in_buffer : i < length b) (in_list : i < length l) where
   step : from b l i ≡ (eqb (get_or b i 0) (get_or l i 0) && starts_with (drop (suc i) b) (drop (suc i) l))
   unfolding starts_with
-  step = ap₂ starts_with (drop-cons b i 0 in_Buffer) (drop-cons l i 0 in_List)
+  step = ap₂ starts_with (drop-cons b i 0 in_buffer) (drop-cons l i 0 in_list)
 
   pub equal_goes_on : get_or b i 0 ≡ get_or l i 0 → from b l (i + 1) ≡ from b l i
   equal_goes_on same =

@@ -1,13 +1,17 @@
 // What the programs that run the examples of RULES 7 print with: words, bytes, lists, whole buffers and the four numbers; and the
 // long lists that they make and compare. What is printed is tested, not proved.
+#![tactic(auto)]
+
 ghost use Rattle.std.specs.Prelude.{◌≤◌, ◌<◌, ◌≡◌, length};
 ghost use Rattle.show.specs.Lists.{Counted, starts_with};
 
 use answer::Answer;
-use libc::STDOUT_FILENO;
+
+// The number of standard output.
+const STDOUT: i32 = 1;
 
 pub fn text(t: &[u8]) {
-    io::write_all(STDOUT_FILENO, t);
+    io::write_all(STDOUT, t);
 }
 
 pub fn space() {
@@ -15,11 +19,11 @@ pub fn space() {
 }
 
 pub fn number(n: u64) {
-    io::print_decimal(STDOUT_FILENO, n);
+    io::print_decimal(STDOUT, n);
 }
 
 pub fn print_byte(byte: u8) {
-    io::print_hex(STDOUT_FILENO, byte as u64, 2);
+    io::print_hex(STDOUT, byte as u64, 2);
 }
 
 // The bytes in hex, a space before each.

@@ -1,4 +1,6 @@
 // Terms spelled as text (RULES 12.1), each with the byte that stands behind it, and how many bytes that takes.
+#![tactic(auto)]
+
 ghost use Rattle.std.specs.Prelude.{◌≡◌, ◌+◌, ◌≤◌, ◌<◌, length};
 ghost use Rattle.std.proofs.lemmas.List.Edits.{sets};
 ghost use Rattle.spell.specs.Spelled.{named, spelled};

@@ -1,9 +1,13 @@
 // The program `split` (RULES 6): reads a block from standard input and prints its parts, or the refusal.
 // Thin over the proved library: each term of a part is spelled by the library's own writer, so the form of its text is proved (RULES 12.1).
 // That it is these bytes that come out, and the lines around them, is tested, not proved.
+#![tactic(auto)]
+
 use answer::Outcome;
-use libc::STDOUT_FILENO;
 use terms::TermList;
+
+// The number of standard output.
+const STDOUT: i32 = 1;
 
 // One byte more than the longest block has, so that a longer input is seen to be longer.
 const MOST_BYTES: usize = 8196;
@@ -11,20 +15,20 @@ const MOST_BYTES: usize = 8196;
 // `refused CODE OPERAND PLACE`
 fn print_refusal(outcome: Outcome) {
     let numbers = answer::numbers(outcome);
-    io::write_all(STDOUT_FILENO, b"refused ");
-    io::print_decimal(STDOUT_FILENO, numbers.code);
-    io::write_all(STDOUT_FILENO, b" ");
-    io::print_decimal(STDOUT_FILENO, numbers.operand);
-    io::write_all(STDOUT_FILENO, b" ");
-    io::print_decimal(STDOUT_FILENO, numbers.place);
-    io::write_all(STDOUT_FILENO, b"\n");
+    io::write_all(STDOUT, b"refused ");
+    io::print_decimal(STDOUT, numbers.code);
+    io::write_all(STDOUT, b" ");
+    io::print_decimal(STDOUT, numbers.operand);
+    io::write_all(STDOUT, b" ");
+    io::print_decimal(STDOUT, numbers.place);
+    io::write_all(STDOUT, b"\n");
 }
 
 // A term and the byte behind it. The longest has 246 bytes: three for each of the first ten variables, four for each of the others.
 fn print_term(term: u64, behind: u8) {
     let mut text = [0u8; 246];
     let n = spell::put_term(&mut text, 0, term, behind);
-    io::write_all(STDOUT_FILENO, &text[..n]);
+    io::write_all(STDOUT, &text[..n]);
 }
 
 // The terms of a part, ascending, a `+` behind each but the last, and a line feed behind that.
@@ -43,9 +47,9 @@ fn print_part(part: &[u64]) {
 
 // `parts K`, then a line for each part. Lengths that reach behind the terms do not occur: split's contract rules them out.
 fn print_parts(count: usize, part_terms: &[u64], part_lengths: &[u64]) {
-    io::write_all(STDOUT_FILENO, b"parts ");
-    io::print_decimal(STDOUT_FILENO, count as u64);
-    io::write_all(STDOUT_FILENO, b"\n");
+    io::write_all(STDOUT, b"parts ");
+    io::print_decimal(STDOUT, count as u64);
+    io::write_all(STDOUT, b"\n");
     let mut at = 0;
     let mut i = 0;
     while i < count {

@@ -1,6 +1,6 @@
 -- The next part of a list with more variables in every term: the lowest of these, or the part of the lowest variable of the list.
 -- Leans on the laws of variables that every term holds.
-use Prim.Native.Nat.{ℕ, ◌-◌, ◌^◌, ◌≤◌, ◌<◌}
+use Prim.Native.Nat.{ℕ, ◌^◌, ◌≤◌, ◌<◌}
 use mathlib.Core.Path.{◌≡◌, refl, sym, ap, ap₂, ◌∙◌, subst}
 use mathlib.Core.Bool.{Bool, true, false, ◌||◌, true≢false}
 use mathlib.Core.List.{List, [], ◌∷◌}

@@ -1,14 +1,13 @@
 -- One round of split: a part is taken out of the rest and written, and what is left has fewer variables. Leans on the theory of
 -- splitting for the parts, on the counts of products for the room.
-use Prim.Native.Nat.{ℕ, suc, ◌+◌, ◌-◌, ◌*◌, ◌≤◌, ◌<◌}
+use Prim.Native.Nat.{ℕ, suc, ◌+◌, ◌*◌, ◌≤◌, ◌<◌}
 use mathlib.Core.Path.{◌≡◌, refl, sym, ap, ap₂, ◌∙◌, subst}
 use mathlib.Core.List.{List, [], ◌∷◌, ◌++◌, append_assoc, append-nil}
 use native.Mathlib.Omega.{arith}
 use lib.Bits.{bit_and, bit_or}
 use lib.Count.{ones}
 use lib.ListN.{length, get_or, take, drop, set, length-append, length-set, length-drop}
-use lib.Seq.{length-take-le, take_all}
-use native.Mathlib.Nat.{le_of_eq}
+use lib.Seq.{length-take-le}
 use Rattle.masks.specs.Bit.{without}
 use Rattle.masks.proofs.Number.{ones_pos}
 use Rattle.masks.proofs.Reflect.{identity, ∅, ◌∩◌, ◌∪◌, ◌∖◌, ◌≐◌, apart, ∴◌, ◌⇒◌}

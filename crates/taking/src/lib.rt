@@ -1,5 +1,7 @@
 // The parts of a list taken out one by one (RULES 2.5): the part of the lowest variable is written, and the rest stands in the list's
 // place. Variables that stand in every term are taken out at once; each is a part of its own when it is the lowest that is left.
+#![tactic(auto)]
+
 ghost use Rattle.std.specs.Prelude.{◌≡◌, ◌+◌, ◌^◌, ◌≤◌, ◌<◌, ◌∷◌, [], map, length, take, drop, replicate};
 ghost use Rattle.std.specs.Int.Bits.{bit_and, bit_or};
 ghost use Rattle.polys.specs.List.{Asc};
@@ -124,10 +126,9 @@ pub fn write_parts(
     t: usize,
     held: Term,
 ) -> usize
-    requires* { do
-      ⌜ Asc (take t (numbers work.old)) × (0 < t) × (t ≤ (← ⟦TermList::MAX_TERMS⟧)) × (t + (t + t) ≤ length (numbers work.old))
-          × (bit_and (value held) (vars (take t (numbers work.old))) ≡ 0) × (value held < 2 ^ lines)
-          × ((← ⟦TermList::MAX_VARS⟧) ≤ length part_lengths.old) × (t + (← ⟦TermList::MAX_VARS⟧) ≤ length (numbers part_terms.old)) ⌝ }
+    requires { Asc (take t (numbers work.old)) × (0 < t) × (t ≤ TermList.MAX_TERMS) × (t + (t + t) ≤ length (numbers work.old))
+        × (bit_and (value held) (vars (take t (numbers work.old))) ≡ 0) × (value held < 2 ^ lines)
+        × (TermList.MAX_VARS ≤ length part_lengths.old) × (t + TermList.MAX_VARS ≤ length (numbers part_terms.old)) }
     ensures { Written (times (value held ∷ []) (take t (numbers work.old))) (numbers part_terms.old)
         part_lengths.old (numbers part_terms.new) part_lengths.new result }
 {

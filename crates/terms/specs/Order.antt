@@ -1,5 +1,5 @@
 -- The first term that is out of order, by its index from 0: the place that code 3 gives (RULES 5.1 and 5.2).
-use Rattle.std.specs.Prelude.{ℕ, zero, suc, Bool, true, false, List, [], ◌∷◌, ltb}
+use Rattle.std.specs.Prelude.{ℕ, suc, Bool, true, false, List, [], ◌∷◌, ltb}
 
 -- the one or the other number
 abbrev pub pick : Bool → ℕ → ℕ → ℕ

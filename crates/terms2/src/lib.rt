@@ -1,5 +1,7 @@
 // Made from crates/terms/src/lib.rt by scripts/second-size, and not to be edited.
 // The term list (RULES 1): its limits, its record, the order check and its variables.
+#![tactic(auto)]
+
 ghost use Rattle.std.specs.Prelude.{◌≡◌, length};
 ghost use Rattle.std.specs.Int.Bits.{bit_and};
 ghost use Rattle.polys.specs.Poly.{vars};
@@ -9,7 +11,7 @@ ghost use Rattle.wide.specs.Numbers.{value, numbers};
 use wide::Term;
 
 // What is known of a lent list of terms: how many there are, and which variables stand in them.
-#[derive(Drop)]
+#[derive(Clone, Copy)]
 pub struct TermList {
     pub count: usize,
     pub vars: Term,

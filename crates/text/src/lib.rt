@@ -1,5 +1,7 @@
 // Equations as text (RULES 12): a reader and a writer. A refusal leaves the lent buffer alone, so each call checks first and then writes: the
 // reader keeps the terms as written in an array of its own, and the writer reckons the bytes beforehand.
+#![tactic(auto)]
+
 ghost use Rattle.std.specs.Prelude.{◌≡◌, ◌+◌, ◌≤◌, ◌<◌, length, take};
 ghost use Rattle.answer.specs.Table.{numbers_of};
 ghost use Rattle.answer.specs.Ends.{Writes};
@@ -16,11 +18,7 @@ pub const MAX_BYTES: usize = 65536;
 
 // Reads a text into a term list.
 pub fn read_text(text: &[u8], out: &mut [u64]) -> Outcome
-    ensures* { do
-      longest ← (⟦MAX_BYTES⟧).entry
-      terms ← (⟦TermList::MAX_TERMS⟧).entry
-      vars ← (⟦TermList::MAX_VARS⟧).entry
-      ⌜ ReadTextEnds longest terms vars text.now out.old (numbers_of result) out.new ⌝ }
+    ensures { ReadTextEnds MAX_BYTES TermList.MAX_TERMS TermList.MAX_VARS text.now out.old (numbers_of result) out.new }
 {
     if MAX_BYTES < text.len() {
         return Outcome::TooMany { operand: 1 };
@@ -32,7 +30,7 @@ pub fn read_text(text: &[u8], out: &mut [u64]) -> Outcome
 
 // Hands on what refuses a text, or writes what is left of the terms that were found in it.
 fn write_found(found: Outcome, words: &mut [u64], out: &mut [u64]) -> Outcome
-    requires* { do ⌜ ((numbers_of found).count ≤ length words.old) × ((numbers_of found).count ≤ (← ⟦TermList::MAX_TERMS⟧)) ⌝ }
+    requires { ((numbers_of found).count ≤ length words.old) × ((numbers_of found).count ≤ TermList.MAX_TERMS) }
     ensures { FoundEnds (numbers_of found) words.old out.old (numbers_of result) out.new }
 {
     if answer::refuses(found) {
@@ -44,7 +42,7 @@ fn write_found(found: Outcome, words: &mut [u64], out: &mut [u64]) -> Outcome
 
 // Brings what is left of the first terms of the words, where two equal ones cancel, to their start, and counts it.
 fn keep_left(words: &mut [u64], count: usize) -> usize
-    requires* { do ⌜ (count ≤ length words.old) × (count ≤ (← ⟦TermList::MAX_TERMS⟧)) ⌝ }
+    requires { (count ≤ length words.old) × (count ≤ TermList.MAX_TERMS) }
     ensures { (take result words.new ≡ left (take count words.old)) × (result ≡ length (left (take count words.old))) × (result ≤ length words.new) }
 {
     let mut spare = [0u64; TermList::MAX_TERMS];
@@ -53,7 +51,7 @@ fn keep_left(words: &mut [u64], count: usize) -> usize
 
 // Writes what is left of the first terms of the words, if there is room.
 fn write_left(words: &mut [u64], count: usize, out: &mut [u64]) -> Outcome
-    requires* { do ⌜ (count ≤ length words.old) × (count ≤ (← ⟦TermList::MAX_TERMS⟧)) ⌝ }
+    requires { (count ≤ length words.old) × (count ≤ TermList.MAX_TERMS) }
     ensures { LeftEnds (take count words.old) out.old (numbers_of result) out.new }
 {
     let left = keep_left(words, count);
@@ -66,10 +64,7 @@ fn write_left(words: &mut [u64], count: usize, out: &mut [u64]) -> Outcome
 
 // Writes the text of a term list.
 pub fn write_text(terms: &[u64], out: &mut [u8]) -> Outcome
-    ensures* { do
-      longest ← (⟦MAX_BYTES⟧).entry
-      most ← (⟦TermList::MAX_TERMS⟧).entry
-      ⌜ WriteTextEnds longest most terms.now out.old (numbers_of result) out.new ⌝ }
+    ensures { WriteTextEnds MAX_BYTES TermList.MAX_TERMS terms.now out.old (numbers_of result) out.new }
 {
     let verdict = write_checks(terms, out.len());
     if answer::refuses(verdict) {
@@ -81,10 +76,7 @@ pub fn write_text(terms: &[u64], out: &mut [u8]) -> Outcome
 
 // What the writer refuses, in the order of the rules.
 fn write_checks(terms: &[u64], room: usize) -> Outcome
-    ensures* { do
-      longest ← (⟦MAX_BYTES⟧).entry
-      most ← (⟦TermList::MAX_TERMS⟧).entry
-      ⌜ Checked (write_text_checks longest most terms.now room) (numbers_of result) ⌝ }
+    ensures { Checked (write_text_checks MAX_BYTES TermList.MAX_TERMS terms.now room) (numbers_of result) }
 {
     if TermList::MAX_TERMS < terms.len() {
         return Outcome::TooMany { operand: 1 };
@@ -108,7 +100,7 @@ fn write_checks(terms: &[u64], room: usize) -> Outcome
 
 // How many bytes the text of a list has.
 fn text_size(terms: &[u64]) -> usize
-    requires* { do ⌜ length terms.now ≤ (← ⟦TermList::MAX_TERMS⟧) ⌝ }
+    requires { length terms.now ≤ TermList.MAX_TERMS }
     ensures { result ≡ length (written terms.now) }
 {
     let n = terms.len();
@@ -126,10 +118,7 @@ fn text_size(terms: &[u64]) -> usize
 
 // Writes the text of a list that passed the checks, and counts its bytes.
 fn put_terms(terms: &[u64], out: &mut [u8]) -> usize
-    requires* { do
-      longest ← ⟦MAX_BYTES⟧
-      most ← ⟦TermList::MAX_TERMS⟧
-      ⌜ Passed (write_text_checks longest most terms.now (length out.old)) ⌝ }
+    requires { Passed (write_text_checks MAX_BYTES TermList.MAX_TERMS terms.now (length out.old)) }
     ensures { Writes (written terms.now) out.old result out.new }
 {
     let n = terms.len();

@@ -6,6 +6,8 @@
 // The examples stand in the file stdin, a line for each: a digit, which says how many words are lent, and a text to read (made.rt); or `write`,
 // how many bytes are lent, how many terms the list to write has, and the first of these, from the last of which the others count up. Other
 // lines are passed over.
+#![tactic(auto)]
+
 mod calls;
 mod made;
 mod printed;

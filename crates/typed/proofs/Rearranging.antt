@@ -129,22 +129,32 @@ module _ (vars most longest : ℕ) where
     where
       names : (ts us : List (List ℕ)) → EachRearranged ts us → AllNamed vars ts → AllNamed vars us
       names [] [] r n = tt
+      names [] (u ∷ us) r n = elim r [ ]
+      names (t ∷ ts) [] r n = elim r [ ]
       names (t ∷ ts) (u ∷ us) r n = (carried (Named vars) (named_exchanged vars) r.0 n.0, names ts us r.1 n.1)
 
       apart : (ts us : List (List ℕ)) → EachRearranged ts us → AllDistinct ts → AllDistinct us
       apart [] [] r n = tt
+      apart [] (u ∷ us) r n = elim r [ ]
+      apart (t ∷ ts) [] r n = elim r [ ]
       apart (t ∷ ts) (u ∷ us) r n = (carried Distinct distinct_exchanged r.0 n.0, apart ts us r.1 n.1)
 
       counts : (ts us : List (List ℕ)) → EachRearranged ts us → length us ≡ length ts
       counts [] [] r = refl
+      counts [] (u ∷ us) r = elim r [ ]
+      counts (t ∷ ts) [] r = elim r [ ]
       counts (t ∷ ts) (u ∷ us) r = ap suc (counts ts us r.1)
 
       totals : (ts us : List (List ℕ)) → EachRearranged ts us → total (map term_text us) ≡ total (map term_text ts)
       totals [] [] r = refl
+      totals [] (u ∷ us) r = elim r [ ]
+      totals (t ∷ ts) [] r = elim r [ ]
       totals (t ∷ ts) (u ∷ us) r = ap₂ (λ (m n : ℕ). suc m + n) (term_rearranged t u r.0) (totals ts us r.1)
 
       sizes : (ts us : List (List ℕ)) → EachRearranged ts us → length (text_of us) ≡ length (text_of ts)
       sizes [] [] r = refl
+      sizes [] (u ∷ us) r = elim r [ ]
+      sizes (t ∷ ts) [] r = elim r [ ]
       sizes (t ∷ ts) (u ∷ us) r = text_total u us ∙ totals (t ∷ ts) (u ∷ us) r ∙ sym (text_total t ts)
 
   -- it fits in any order

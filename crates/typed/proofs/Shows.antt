@@ -1,6 +1,6 @@
 -- What a byte shows (RULES 12.2), by the state in front of it: a variable again where the state `repeats`, a term too many where it
 -- `overflows`, a wrong sign where the byte leads nowhere. So a byte shows one thing at most. Assumes nothing.
-use Prim.Native.Nat.{ℕ, suc, ◌+◌, ◌≤◌, ◌<◌}
+use Prim.Native.Nat.{ℕ, suc, ◌≤◌, ◌<◌}
 use native.Mathlib.Omega.{arith}
 use native.Mathlib.Decide.{dec_le}
 use mathlib.Core.Path.{◌≡◌, refl, sym, ap, subst, ◌∙◌}

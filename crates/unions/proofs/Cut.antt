@@ -12,7 +12,7 @@ use lib.Bits.{bit_and, bit_or, bit_xor, and_shr, or_shr, xor_shr, or_disjoint, a
 use lib.ListN.{length, get_or, take, drop, length-take, length-drop, take-append-drop, drop_of_length-le}
 use lib.Pow.{pow_pos, shr_mono}
 use lib.Seq.{get_or-take, get_or-drop, take_all}
-use Rattle.masks.proofs.Reflect.{∅, ◌∩◌, ◌⊕◌, ◌≐◌, ◌⊆◌, ◌⇒◌, ∴◌, apart, identity}
+use Rattle.masks.proofs.Reflect.{∅, ◌∩◌, ◌⊕◌, ◌≐◌, ◌⊆◌, ◌⇒◌, ∴◌, identity}
 use Rattle.polys.specs.List.{Mem}
 use Rattle.polys.specs.Poly.{vars, times, Apart}
 use Rattle.polys.proofs.Lists.{mem_left, mem_right, mem_append, mem_at, at_mem, asc_append, asc_at_le}

@@ -1,6 +1,8 @@
 // The product of two term lists that share no variable, written in ascending order at once (RULES 2.1), with no sorting and no
 // work area: the list that varies by more is cut into runs that vary by less than the other list, and the runs' products stand
 // one behind the other. A run varies less than the list it is cut from, so the recursion is no deeper than there are variables.
+#![tactic(auto)]
+
 ghost use Rattle.std.specs.Prelude.{◌*◌, ◌<◌, ◌≡◌, map, length};
 ghost use Rattle.std.specs.Int.Bits.{bit_or};
 ghost use Rattle.narrow.specs.Numbers.{value, numbers};

@@ -10,7 +10,7 @@ use native.Mathlib.Decide.{ℕ_discrete, dec_le}
 use lib.Bits.{bit_and, bit_or}
 use Rattle.masks.specs.Bit.{bit}
 use Rattle.masks.proofs.Bits.{bit_and_lem, bit_or_lem, bit_zero}
-use Rattle.masks.proofs.Reflect.{identity, ∅, ◌∪◌, ◌≐◌, apart, ∴◌, ◌⇒◌}
+use Rattle.masks.proofs.Reflect.{identity, ∅, ◌∪◌, ◌≐◌, ∴◌, ◌⇒◌}
 use Rattle.masks.proofs.Lowest.{IsLowest}
 use Rattle.polys.specs.List.{Asc}
 use Rattle.polys.specs.Poly.{vars, onto, off, times, Apart, Irreducible}

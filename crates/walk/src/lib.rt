@@ -1,5 +1,7 @@
 // The product of two term lists that share no variable (RULES 2.1) held against a third list, up to the first difference. The
 // product is walked in the order in which `unions` writes it, and nothing is written: it may be far longer than the list.
+#![tactic(auto)]
+
 ghost use Rattle.std.specs.Prelude.{◌≤◌, ◌≡◌, map, length};
 ghost use Rattle.std.specs.Int.Bits.{bit_or};
 ghost use Rattle.narrow.specs.Numbers.{value, numbers};
@@ -11,7 +13,7 @@ ghost use Rattle.walk.specs.Told.{Compared, way};
 use narrow::Term;
 
 // The first term that stands in one of two lists only: it is missing from the second, or extra in it.
-#[derive(Drop)]
+#[derive(Clone, Copy)]
 pub enum Beside {
     Same,
     Missing { u: Term },
@@ -19,7 +21,7 @@ pub enum Beside {
 }
 
 // How far a walk came: on to a place of the list, or to the first difference.
-#[derive(Drop)]
+#[derive(Clone, Copy)]
 pub enum Walked {
     On { at: usize },
     Lacks { u: Term },

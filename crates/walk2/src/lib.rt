@@ -1,6 +1,8 @@
 // Made from crates/walk/src/lib.rt by scripts/second-size, and not to be edited.
 // The product of two term lists that share no variable (RULES 2.1) held against a third list, up to the first difference. The
 // product is walked in the order in which `unions` writes it, and nothing is written: it may be far longer than the list.
+#![tactic(auto)]
+
 ghost use Rattle.std.specs.Prelude.{◌≤◌, ◌≡◌, map, length};
 ghost use Rattle.std.specs.Int.Bits.{bit_or};
 ghost use Rattle.wide.specs.Numbers.{value, numbers};
@@ -12,7 +14,7 @@ ghost use Rattle.walk2.specs.Told.{Compared, way};
 use wide::Term;
 
 // The first term that stands in one of two lists only: it is missing from the second, or extra in it.
-#[derive(Drop)]
+#[derive(Clone, Copy)]
 pub enum Beside {
     Same,
     Missing { u: Term },
@@ -20,7 +22,7 @@ pub enum Beside {
 }
 
 // How far a walk came: on to a place of the list, or to the first difference.
-#[derive(Drop)]
+#[derive(Clone, Copy)]
 pub enum Walked {
     On { at: usize },
     Lacks { u: Term },

@@ -1,8 +1,8 @@
 -- Fields of bits in two pieces: a field wider than a word is read, and put, as its high bits and then its low ones. The width of a word
 -- comes in as a number. Leans on digits' laws of fields. Assumes nothing.
-use mathlib.Core.Path.{◌≡◌, sym, ap, ap₂, subst, ◌∙◌}
+use mathlib.Core.Path.{◌≡◌, sym, ap, subst, ◌∙◌}
 use mathlib.Core.List.{List}
-use Prim.Native.Nat.{ℕ, zero, suc, ◌+◌, ◌-◌, ◌*◌, ◌/◌, ◌%◌, ◌^◌, ◌≤◌, ◌<◌}
+use Prim.Native.Nat.{ℕ, ◌+◌, ◌-◌, ◌*◌, ◌/◌, ◌%◌, ◌^◌, ◌≤◌, ◌<◌}
 use native.Mathlib.Nat.{add_assoc, add-mul, mul_assoc, pow-zero, lt_of_lt_of_le}
 use native.Mathlib.Omega.{arith}
 use lib.ListN.{length, drop}

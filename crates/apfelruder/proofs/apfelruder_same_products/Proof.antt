@@ -1,8 +1,0 @@
--- `apfelruder_same_products` hands on the numbers of the call of the library. Assumes nothing.
-use borrow.Author.Rules.{rules}
-use Rattle.answer.proofs.Checking.{numbers_handed_on}
-use Rattle.apfelruder.proofs.apfelruder_same_products.Statement.{statement}
-use Rattle.apfelruder.proofs.apfelruder_same_products.Tie as tie
-
-pub apfelruder_same_products_spec : {M : Type 1} → statement M
-apfelruder_same_products_spec = tie.close (tie.spec (λ c κs. search rules) (λ c κs. search rules) (λ c. search numbers_handed_on))

@@ -1,0 +1,12 @@
+-- Made from crates/counts/proofs/add/Answers.antt by scripts/second-size, and not to be edited.
+-- `counts2::add` is the full adder in each place. Assumes nothing.
+use Prim.Native.Nat.{ℕ}
+use Rattle.wide.specs.Numbers.{value}
+use Rattle.counts.proofs.Digits.{full_adder}
+use Rattle.counts2.proofs.add.Goals as goal
+
+pub returns : goal.returns
+returns c =
+    λ (v : ℕ).
+    let a = c.args in
+    cc (full_adder (value a.a) (value a.b) (value a.c) v)

@@ -1,0 +1,14 @@
+-- Made from crates/grow/proofs/lay_whole/Invariants.antt by scripts/second-size, and not to be edited.
+-- `grow2::lay_whole` copies the list behind itself. The invariant: the terms passed stand there (Laying). Assumes nothing.
+use Prim.Native.Nat.{◌+◌, ◌-◌, ◌≤◌}
+use mathlib.Core.Path.{◌≡◌}
+use lib.ListN.{length}
+use Rattle.wide.specs.Numbers.{numbers}
+use Rattle.grow.proofs.Laying.{Copying}
+use Rattle.grow2.proofs.lay_whole.Given as goal
+
+abbrev pub invariant-loop-i : goal.invariant-loop-i
+invariant-loop-i l = (l.i ≤ l.n) × (length l.work ≡ length l.initial.work) × (l.n + (l.n + l.n) ≤ length (numbers l.work)) × Copying (numbers l.initial.work) l.n (numbers l.work) l.i
+
+abbrev pub decreases-loop-i : goal.decreases-loop-i
+decreases-loop-i l = l.n - l.i

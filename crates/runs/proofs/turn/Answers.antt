@@ -1,0 +1,5 @@
+-- `runs::turn` holds the first term against the last. Assumes nothing.
+use Rattle.runs.proofs.turn.Goals as goal
+
+pub returns : goal.returns
+returns c = cc

@@ -1,0 +1,13 @@
+-- Made from crates/runs/proofs/cut/Invariants.antt by scripts/second-size, and not to be edited.
+-- `runs2::cut` halves the range in which the cut lies. The invariant: the cut lies in it. The measure is its length. Assumes nothing.
+use Prim.Native.Nat.{◌≤◌, ◌-◌}
+use lib.ListN.{length}
+use Rattle.wide.specs.Numbers.{numbers}
+use Rattle.ring.specs.Run.{lacking}
+use Rattle.runs2.proofs.cut.Given as goal
+
+abbrev pub invariant-loop-from : goal.invariant-loop-from
+invariant-loop-from l = (l.from ≤ length (lacking l.k (numbers l.l))) × (length (lacking l.k (numbers l.l)) ≤ l.to) × (l.to ≤ length (numbers l.l))
+
+abbrev pub decreases-loop-from : goal.decreases-loop-from
+decreases-loop-from l = l.to - l.from

@@ -1,0 +1,17 @@
+-- Made from crates/runs/proofs/matched/Invariants.antt by scripts/second-size, and not to be edited.
+-- `runs2::matched` compares two lists term by term. The invariant: at all places passed the two products are one. The measure is what is
+-- left of the length. Assumes nothing.
+use Prim.Native.Nat.{ℕ, ◌≤◌, ◌<◌, ◌-◌}
+use mathlib.Core.Path.{◌≡◌}
+use lib.ListN.{length, get_or}
+use Rattle.wide.specs.Numbers.{value, numbers}
+use Rattle.ring.specs.Lone.{Even}
+use Rattle.runs2.proofs.matched.Given as goal
+
+abbrev pub invariant-loop-i : goal.invariant-loop-i
+invariant-loop-i l =
+    (l.i ≤ length (numbers l.d)) × (l.n ≡ length (numbers l.d)) × (length (numbers l.d) ≡ length (numbers l.c))
+    × ((j : ℕ) → j < l.i → Even l.k (value l.u) (get_or (numbers l.d) j 0) (value l.v) (get_or (numbers l.c) j 0))
+
+abbrev pub decreases-loop-i : goal.decreases-loop-i
+decreases-loop-i l = length (numbers l.d) - l.i

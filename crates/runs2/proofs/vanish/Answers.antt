@@ -1,0 +1,13 @@
+-- Made from crates/runs/proofs/vanish/Answers.antt by scripts/second-size, and not to be edited.
+-- `runs2::vanish` says whether one of two lists is empty. Each answer is one of the two tests. Assumes nothing.
+use mathlib.Core.Logic.{inl, inr, ⊎_elim}
+use Rattle.runs2.proofs.vanish.Goals as goal
+
+pub returns-then-count-eq0 : goal.returns-then-count-eq0
+returns-then-count-eq0 c = inl (cc)
+
+pub returns-then-count-eq0-2 : goal.returns-then-count-eq0-2
+returns-then-count-eq0-2 c = inr (cc)
+
+pub returns : goal.returns
+returns c = ⊎_elim (λ e. c.if-count-eq0.false (cc)) (λ e. c.if-count-eq0-2.false (cc))

@@ -1,0 +1,20 @@
+-- Made from crates/runs/proofs/within/Answers.antt by scripts/second-size, and not to be edited.
+-- `runs2::within` compares w with the width of the mask's bits below k. Assumes nothing.
+use mathlib.Core.Path.{ap, subst, ◌∙◌}
+use Prim.Native.Nat.{ℕ, ◌<◌, ◌≤◌}
+use Rattle.masks.specs.Width.{width}
+use Rattle.wide.specs.Numbers.{value}
+use Rattle.runs.proofs.Facts.{within_by_width, none_within}
+use Rattle.runs2.proofs.within.Goals as goal
+
+pub returns-then-w-n : goal.returns-then-w-n
+returns-then-w-n c =
+    let a = c.args in
+    within_by_width (value a.m) a.w a.k
+    (subst (λ (n : ℕ). a.w < n) (c.top-n.ensures ∙ ap width c.low.ensures) c.if-w-n.true)
+
+pub returns : goal.returns
+returns c =
+    let a = c.args in
+    none_within (value a.m) a.w a.k
+    (subst (λ (n : ℕ). n ≤ a.w) (c.top-n.ensures ∙ ap width c.low.ensures) c.if-w-n.false)

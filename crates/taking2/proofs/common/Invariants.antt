@@ -1,0 +1,14 @@
+-- Made from crates/taking/proofs/common/Invariants.antt by scripts/second-size, and not to be edited.
+-- `taking2::common` keeps what each term passed holds. Assumes nothing.
+use Prim.Native.Nat.{ℕ, ◌≤◌, ◌<◌, ◌-◌}
+use mathlib.Core.Path.{◌≡◌}
+use lib.Bits.{bit_and}
+use lib.ListN.{length, get_or}
+use Rattle.wide.specs.Numbers.{value, numbers}
+use Rattle.taking2.proofs.common.Given as goal
+
+abbrev pub invariant-loop-i : goal.invariant-loop-i
+invariant-loop-i l = (l.n ≡ length (numbers l.list)) × (l.i ≤ l.n) × ((k : ℕ) → k < l.i → bit_and (value l.held) (get_or (numbers l.list) k 0) ≡ value l.held)
+
+abbrev pub decreases-loop-i : goal.decreases-loop-i
+decreases-loop-i l = l.n - l.i
