@@ -1,6 +1,6 @@
 /* Splits the boards of a small deployment in one call and prints each board's answer and parts. On x86-64:
  *
- *   rt staticlib apfelruder
+ *   scripts/static-archive
  *   cc -O2 -Iinclude examples-c/deploy_boards.c target/staticlib/libapfelruder.a -o target/deploy_boards
  *   target/deploy_boards
  *

@@ -1,6 +1,6 @@
 /* Reads a block and prints its parts, one a line: what the program `split` does, from C. On x86-64:
  *
- *   rt staticlib apfelruder
+ *   scripts/static-archive
  *   cc -O2 -Iinclude examples-c/split_block.c target/staticlib/libapfelruder.a -o target/split_block
  *   printf '\020\140\004\052\340' | target/split_block         (also: target/split_block FILE; - is standard input)
  *

@@ -48,7 +48,7 @@
  *     threads have small stacks.
  *
  * Linking
- *   - target/staticlib/libapfelruder.a (`rt staticlib apfelruder`) is for x86-64. For another machine
+ *   - target/staticlib/libapfelruder.a (`scripts/static-archive`) is for x86-64. For another machine
  *     scripts/native-archive compiles the same proved module: target/native/libapfelruder.a.
  *   - Either archive defines the nine calls below and no other global symbol.
  *   - Of the C library it needs memcpy and memset alone; a program without a C library supplies these.

@@ -8,14 +8,15 @@
 #
 #   kit_rt          the command rt
 #   kit_id          what `rt version` says: which kit it is
-#   kit_home        the kit's folder: RATTLE_HOME if it is set, else that of rt
+#   kit_home        the kit's folder: that of rt, or RATTLE_HOME if it is set, where an rt on the path is a script that stands before the kit's
 #   kit_machine     this machine, as `uname -m` says it
-#   kit_tools       the folder of the kit's compiler and C library, for this machine
+#   kit_tools       the folder of the kit's compiler and C library
 #   kit_clang, kit_ar, kit_lld, kit_link
 #                   the compiler, its archiver and linker, and rattle-link, which links a program with the kit's C library
-#   kit_emulator    an array: what stands before a static program for x86-64 to run it here (nothing on x86-64)
-#   kit_run         an array: what stands before any program for x86-64 to run it here, with the kit's loader and C library,
-#                   as rt runs it: "${kit_run[@]}" target/bin/split
+#   kit_emulator    an array: what stands before a static program for x86-64 to run it here (nothing on x86-64, the machine that the kit is for;
+#                   on another one a kit has to bring an emulator)
+#   kit_run         an array: what stands before any program for x86-64 to run it here, with the kit's loader and C library:
+#                   "${kit_run[@]}" crates/split/out/split
 #
 # and three functions: kit_nm WORDS.., LLVM's nm; kit_trouble WORDS.., which says the words after NAME and ends the script with
 # status 2; kit_command VARIABLE WORD WHOSE, which finds another command as rt is found.
@@ -59,14 +60,13 @@ kit_must_have() { # FILE..
 }
 
 kit_find() { # NAME
-    local own variable loader
+    local variable loader
     kit_who=$1
     kit_command kit_rt rt 'the Rattle kit'
     kit_find_home
     kit_machine=$(uname -m)
-    own=$kit_home/on/$kit_machine
-    kit_tools=$own/toolchain
-    kit_clang=$kit_tools/bin/clang kit_ar=$kit_tools/bin/llvm-ar kit_lld=$kit_tools/bin/ld.lld kit_link=$own/bin/rattle-link
+    kit_tools=$kit_home/toolchain
+    kit_clang=$kit_tools/bin/clang kit_ar=$kit_tools/bin/llvm-ar kit_lld=$kit_tools/bin/ld.lld kit_link=$kit_home/bin/rattle-link
     loader=$kit_tools/lib/ld-linux-x86-64.so.2
     kit_emulator=()
     [ "$kit_machine" = x86_64 ] || kit_emulator=("$kit_tools/bin/qemu-x86_64")

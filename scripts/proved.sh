@@ -4,37 +4,46 @@
 #   kit_find NAME
 #   proved_program CRATE      sets program to an absolute path: the program of the sources as they are now, proved by this kit
 #   proved_tool [native]      the same for the tool, rust/tool with the library's archive linked in: on x86-64 the one that rt
-#                             writes, elsewhere and for native the one of scripts/native-archive. Needs cargo
+#                             writes (scripts/static-archive), elsewhere and for native the one of scripts/native-archive. Needs cargo
 #
-# Or it ends the script with status 2, and says why. `rt check` leaves a program in target/bin also where its run was not what
-# the crate's file stdout has, and leaves the old one where the new one is not proved. So nothing is taken from there but right
-# after a check that accepted all, and it is kept in target/proved under a name that holds a fingerprint of the kit and of all
-# sources. Where there is none for the sources as they are, they are proved first: some minutes from nothing. Where there is one
-# it costs the fingerprint, some hundredths of a second. The tool is kept in the same way; its fingerprint also covers its own
-# sources and the version of cargo.
+# Or it ends the script with status 2, and says why. `rt all test` in a program's folder proves it, builds it and runs it on its
+# file stdin. It leaves the program in the crate's out/ also where its run was not what the file stdout has, and leaves the old one
+# where the new one is not proved. So nothing is taken from there but right after a run that accepted all, and it is kept in
+# target/proved under a name that holds a fingerprint of the kit and of all sources. Where there is none for the sources as they
+# are, they are proved first, over what earlier checks kept: some minutes from nothing. Where there is one it costs the
+# fingerprint, some hundredths of a second. The tool is kept in the same way; its fingerprint also covers its own sources and the
+# version of cargo.
 #
 # Of several calls at once the first proves and the others wait. A call that is stopped leaves nothing that would be run: rt and
 # what rt started are stopped first, then the script ends by the signal.
 
-# Prints the fingerprint, of the crates and of what is named besides. An edit in must-fail/ or tests/ changes no program. rt
-# follows no link when it asks whether a source changed, so none is allowed.
+# Prints the fingerprint, of the crates and of what is named besides. An edit in must-fail/ or tests/ changes no program, and what
+# rt leaves in a crate's out/ is no source. rt takes no link among the sources, so none is allowed.
 proved_fingerprint() { # [PATH..]
     local odd
     set -o pipefail
-    cd "$root" && odd=$(find crates/ "$@" ! -type d ! -type f -print -quit) || kit_trouble "the sources below $root cannot be read"
+    cd "$root" && odd=$(proved_sources "$@" ! -type d ! -type f -print -quit) || kit_trouble "the sources below $root cannot be read"
     [ -z "$odd" ] || kit_trouble "$root/$odd is neither a file nor a folder: nothing is run"
     {
         printf '%s\n' "$kit_id" "$kit_machine" && sha256sum crates.txt &&
-            find crates/ "$@" -type f ! -path '*/must-fail/*' ! -path '*/tests/*' -print0 | LC_ALL=C sort -z | xargs -0 sha256sum
+            proved_sources "$@" -type f ! -path '*/must-fail/*' ! -path '*/tests/*' -print0 | LC_ALL=C sort -z | xargs -0 sha256sum
     } | sha256sum | cut -d ' ' -f 1 || kit_trouble "the sources below $root cannot be read"
 }
 
-# Runs the words in the repository, with nothing to read, and gives their status. Bash holds a signal back until a command in the
+# Has find go over the crates, but for their out/, and over what is named besides.
+proved_sources() { # [PATH..] EXPRESSION
+    local paths=(crates/)
+    while [[ $1 != [-!]* ]]; do paths+=("$1") && shift; done
+    find "${paths[@]}" -regextype posix-extended -regex 'crates/[^/]+/out' -prune -o "$@"
+}
+
+# Runs the words in a folder of the repository, with nothing to read, and gives their status. Bash holds a signal back until a command in the
 # foreground ends, so they run beside it, and as a process group of their own, so that what they started can be stopped with them.
-proved_run() { # WORDS..
-    local signal status=0
+proved_run() { # FOLDER WORDS..
+    local signal status=0 folder=$root/$1
+    shift
     for signal in TERM HUP INT; do trap "proved_stop $signal" "$signal"; done
-    (cd "$root" && exec setsid "$@" </dev/null >&2) &
+    (cd "$folder" && exec setsid "$@" </dev/null >&2) &
     wait $! || status=$?
     trap - TERM HUP INT
     return $status
@@ -83,12 +92,12 @@ proved_program() { # CRATE
 # Has rt prove, build and run the crate.
 proved_check() {
     local status=0
-    built=$root/target/bin/$crate
+    built=$root/crates/$crate/out/$crate
     proved_say "$crate is proved and built first; from nothing that takes some minutes"
     # without these rt has to make the program in this run, and to run it
-    rm -f "$root/target/stamp/$crate" "$built" || kit_trouble "cannot remove $built"
-    proved_run "$kit_rt" check "$crate" || status=$?
-    [ "$status" -eq 0 ] || kit_trouble "rt check $crate does not accept the sources (status $status): nothing is run"
+    rm -f "$built.stamp" "$built.o" "$built" || kit_trouble "cannot remove $built"
+    proved_run "crates/$crate" "$kit_rt" all test || status=$?
+    [ "$status" -eq 0 ] && [ -x "$built" ] || kit_trouble "rt all test in crates/$crate does not accept the sources (status $status): nothing is run"
 }
 
 proved_tool() { # [native]
@@ -102,21 +111,21 @@ proved_tool() { # [native]
 proved_tool_fingerprint() {
     local sources
     sources=$(proved_fingerprint rust/tool rust/apfelruder rust/Cargo.toml rust/Cargo.lock include \
-        scripts/native-archive scripts/native_shim.c scripts/bare) || exit 2
+        scripts/static-archive scripts/native-archive scripts/native_shim.c scripts/bare) || exit 2
     printf '%s\n' "$sources" "$cargo_id" "$archive" | sha256sum | cut -d ' ' -f 1
 }
 
 # Has rt prove the library and write its archive, and cargo build the tool over it.
 proved_build() {
-    local status=0 words=("$kit_rt" staticlib apfelruder) folder=$root/target/staticlib
-    if [ $archive != rt ]; then words=("$root/$archive") folder=$root/target/native; fi
+    local status=0 maker=scripts/static-archive folder=$root/target/staticlib
+    if [ $archive != rt ]; then maker=$archive folder=$root/target/native; fi
     built=$root/target/tool/release/apfelruder
     proved_say "the library is proved and built first; from nothing that takes some minutes"
     rm -f "$built" || kit_trouble "cannot remove $built"
-    proved_run "${words[@]}" || status=$?
-    [ $status -eq 0 ] || kit_trouble "${words[*]##*/} does not accept the sources (status $status): nothing is run"
+    proved_run . "$root/$maker" || status=$?
+    [ $status -eq 0 ] || kit_trouble "$maker does not accept the sources (status $status): nothing is run"
     proved_say "building the tool"
-    proved_run env -u CARGO_BUILD_TARGET APFELRUDER_LIB_DIR="$folder" APFELRUDER_KIT="$kit_id" APFELRUDER_SOURCES="$fingerprint" \
+    proved_run . env -u CARGO_BUILD_TARGET APFELRUDER_LIB_DIR="$folder" APFELRUDER_KIT="$kit_id" APFELRUDER_SOURCES="$fingerprint" \
         APFELRUDER_MACHINE="$kit_machine, archive of $archive" "$cargo" build --quiet --offline --locked --release \
         --manifest-path rust/Cargo.toml --target-dir target/tool -p apfelruder-tool || status=$?
     [ $status -eq 0 ] && [ -x "$built" ] || kit_trouble "cargo does not build the tool (status $status): nothing is run"

@@ -1,5 +1,5 @@
 //! Tells cargo where libapfelruder.a lies: in the folder that APFELRUDER_LIB_DIR names, else in target/staticlib of the
-//! repository, where `rt staticlib apfelruder` writes it.
+//! repository, where `scripts/static-archive` writes it.
 //!
 //! `cargo check`, `cargo clippy` and `cargo doc` need no archive. So one that is missing from the repository is a warning
 //! here, and rustc stops when it makes the library itself. A folder that somebody named is an error at once if it does
@@ -31,7 +31,7 @@ fn named_dir(dir: PathBuf) -> PathBuf {
     }
     if !dir.join(ARCHIVE).is_file() {
         stop(&format!(
-            "{NAMED} is {shown}, which has no {ARCHIVE}: run `rt staticlib apfelruder` in the repository, which writes it \
+            "{NAMED} is {shown}, which has no {ARCHIVE}: run `scripts/static-archive` in the repository, which writes it \
              to target/staticlib, or unset the variable"
         ));
     }
@@ -51,7 +51,7 @@ fn repository_dir() -> PathBuf {
         ));
     } else if !dir.join(ARCHIVE).is_file() {
         warn(&format!(
-            "{} is missing: checking works, linking will not. Run `rt staticlib apfelruder` in the repository, or let \
+            "{} is missing: checking works, linking will not. Run `scripts/static-archive` in the repository, or let \
              {NAMED} name the folder that has it",
             dir.join(ARCHIVE).display()
         ));

@@ -62,7 +62,7 @@
 //! - The calls keep no state, so they may run on many threads at once. They take their room from the stack:
 //!   include/apfelruder.h says how much to leave them.
 //! - No call panics, for any input.
-//! - The archive is libapfelruder.a, for x86-64, as `rt staticlib apfelruder` writes it. The build script looks for it in
+//! - The archive is libapfelruder.a, for x86-64, as `scripts/static-archive` writes it. The build script looks for it in
 //!   target/staticlib of the repository, or in the folder that the environment variable `APFELRUDER_LIB_DIR` names (an
 //!   absolute path). Checking and documenting work without it.
 #![no_std]

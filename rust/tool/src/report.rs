@@ -106,7 +106,7 @@ fn verdict(pairs: &Pairs, about: &About) -> String {
         "<header>\n<p class=\"kicker\">Apfelruder <span>Audit of loaded parts</span></p>\n\
          <div class=\"verdict {}\">\n{}\n<div>\n<h1><strong>{}:</strong> {}</h1>\n{}\
          <p class=\"theorem\">The answer of the proved call <code>apfelruder_audit</code>. Theorem \
-         <code>audit-says-yes-exactly-for-the-parts</code>: it says yes exactly if the given parts, in their order, are \
+         <code>audit_says_yes_exactly_for_the_parts</code>: it says yes exactly if the given parts, in their order, are \
          the parts of the approved equation.</p>\n</div>\n</div>\n\
          <dl>\n<dt>Approved</dt><dd class=\"file\">{}</dd>\n<dt>Given</dt><dd>{}</dd>\n<dt>Made</dt><dd>{}</dd>\n\
          </dl>\n</header>\n",
@@ -160,8 +160,8 @@ const NATIVE: &str =
 
 const PROVED: &str = "<section class=\"kept\">\n<h2>What is proved, and what is not</h2>\n\
     <p><b>Proved</b>, for all equations and parts: that the yes or no at the top is right, and that the parts shown as \
-    they should be are the parts of the approved equation (theorems <code>audit-leaves-what-split-leaves</code> and \
-    <code>accepted-split-holds-the-parts</code>). Both come from the call <code>apfelruder_audit</code> of the library. \
+    they should be are the parts of the approved equation (theorems <code>audit_leaves_what_split_leaves</code> and \
+    <code>accepted_split_holds_the_parts</code>). Both come from the call <code>apfelruder_audit</code> of the library. \
     The theorems named on this page stand in <code>crates/demands/proofs/Demands.antt</code>.</p>\n\
     <p><b>Not proved</b>, but tested: that the tool <code>apfelruder</code> hands the library what the files hold; its \
     words on a no, that is which terms, inputs and parts it names; this page itself. What the proofs rest on, such as \

@@ -125,10 +125,10 @@ fn stands_behind(seen: &str) {
     shows(
         seen,
         &[
-            "audit-says-yes-exactly-for-the-parts",
-            "audited-parts-multiply-back",
-            "audited-parts-cannot-be-split",
-            "audited-parts-are-the-factors-over-GF2",
+            "audit_says_yes_exactly_for_the_parts",
+            "audited_parts_multiply_back",
+            "audited_parts_cannot_be_split",
+            "audited_parts_are_the_factors_over_gf2",
         ],
     );
 }

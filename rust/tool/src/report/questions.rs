@@ -147,7 +147,7 @@ fn first_theorem(audited: &Audited) -> String {
         "that they multiply back was found by the tool, with the proved call multiply."
     };
     format!(
-        "Theorem <code>audited-parts-multiply-back</code>: whenever the audit says yes, the given parts multiply to \
+        "Theorem <code>audited_parts_multiply_back</code>: whenever the audit says yes, the given parts multiply to \
          the approved equation, term for term, the constant term included. {}",
         reach(audited, otherwise)
     )
@@ -155,9 +155,9 @@ fn first_theorem(audited: &Audited) -> String {
 
 fn second_theorem(audited: &Audited) -> String {
     format!(
-        "Theorem <code>audited-parts-cannot-be-split</code>: whenever the audit says yes, each given part has inputs, \
+        "Theorem <code>audited_parts_cannot_be_split</code>: whenever the audit says yes, each given part has inputs, \
          and is no product of two equations that have inputs and share none. Theorem \
-         <code>audited-parts-are-the-factors-over-GF2</code>: they are then the irreducible factors of the approved \
+         <code>audited_parts_are_the_factors_over_gf2</code>: they are then the irreducible factors of the approved \
          equation in the ordinary sense, over GF(2). {}",
         reach(audited, "this answer was found by the tool, with the proved call split of each given part.")
     )

@@ -33,11 +33,11 @@ fn theorems_are_named_with_either_answer() {
         let page = shown(&audited);
         holds(
             &page,
-            &["audit-says-yes-exactly-for-the-parts", "crates/demands/proofs/Demands.antt", "docs/READING.md"],
+            &["audit_says_yes_exactly_for_the_parts", "crates/demands/proofs/Demands.antt", "docs/READING.md"],
         );
         let [first, second] = answers(&page);
-        holds(&first, &["audited-parts-multiply-back"]);
-        holds(&second, &["audited-parts-cannot-be-split", "audited-parts-are-the-factors-over-GF2"]);
+        holds(&first, &["audited_parts_multiply_back"]);
+        holds(&second, &["audited_parts_cannot_be_split", "audited_parts_are_the_factors_over_gf2"]);
     }
 }
 
