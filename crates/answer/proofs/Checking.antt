@@ -8,7 +8,12 @@ use native.Mathlib.Omega.{arith}
 use borrow.Author.Tests.{lt-ltb, le-ltb, eq-eqb, ne_eqb, ltb-true, eqb-true, not-false}
 use lib.Dec.{ltb, eqb, lit<}
 use Rattle.answer.specs.declared.Answer.{Answer}
-use Rattle.answer.specs.Table.{accepted, refused}
+use Rattle.std.specs.Prelude.{Option, None, Result, Ok, Err, is_err, IsErrAnd}
+use Rattle.std.specs.Option.{ok_or}
+use Rattle.std.proofs.lemmas.Result.{err_from_is_err_and}
+use Rattle.answer.specs.declared.Refusal.{Refusal}
+use Rattle.answer.specs.declared.Refusal.TheVariants.{Zero, TooMany, Order, Shared, TooLarge, Room, Work, Form, Wide, Short, Misfit, Extra, Pad, Sign, Twice}
+use Rattle.answer.specs.Table.{accepted, refused, refusal_of, numbers_of, verdict_of}
 use Rattle.answer.specs.Ends.{Check, check, Ends}
 use Rattle.answer.specs.Checked.{Passed, Checked}
 use Rattle.answer.proofs.Ends.{each, ends_if_refused, passed_if_not_refused, ends_if_passed}
@@ -95,7 +100,7 @@ pub passed_if_equal : (m n : ℕ) → m ≡ n → not (eqb m n) ≡ false
 passed_if_equal m n e = agrees m m n refl e
 
 -- what refuses first refuses, whatever checks stand behind
-refused_behind : (cs ds : List Check) (answer : Answer) → Checked cs answer → ltb 0 answer.code ≡ true → Checked (cs ++ ds) answer
+pub refused_behind : (cs ds : List Check) (answer : Answer) → Checked cs answer → ltb 0 answer.code ≡ true → Checked (cs ++ ds) answer
 unfolding Checked
 refused_behind [] ds answer c h = absurd (let z : ⊥ = omega (arith, ltb-true 0 answer.code h, ap (λ (a : Answer). a.code) c) in z)
 refused_behind (c ∷ cs) ds answer ch h = each c.fails (λ r. r) (λ r. refused_behind cs ds answer r h) ch
@@ -122,31 +127,90 @@ unfolding Passed
 passed_then [] ds p = p
 passed_then (c ∷ cs) ds p = passed_then cs ds p.1
 
--- ---- a call that checks and then works: `refused` is what `answer::refuses` says of its checks' answer
+-- ---- a call that checks and then works: `checks(..)?` hands a refusal on, and what stands behind it may count on the checks
 
-module _ (cs : List Check) (answer : Answer) (refused : Bool) (checked : Checked cs answer) (said : refused ≡ ltb 0 answer.code) where
-  -- it hands the refusal on,
-  pub refusal_handed_on : {B : Type 0} (old : B) (A : ℕ → B → Type 0) → refused ≡ true → Ends cs old A answer old
-  refusal_handed_on old A e = ends_if_refused old A cs answer checked (sym said ∙ e)
+-- a refusal has a code above 0
+coded_refusal : (refusal : Refusal) → ltb 0 (refusal_of refusal).code ≡ true
+coded_refusal Zero = refl
+coded_refusal (TooMany operand) = refl
+coded_refusal (Order operand place) = refl
+coded_refusal Shared = refl
+coded_refusal (TooLarge operand) = refl
+coded_refusal (Room operand) = refl
+coded_refusal Work = refl
+coded_refusal Form = refl
+coded_refusal Wide = refl
+coded_refusal (Short operand) = refl
+coded_refusal Misfit = refl
+coded_refusal (Extra operand) = refl
+coded_refusal Pad = refl
+coded_refusal (Sign place) = refl
+coded_refusal (Twice place) = refl
+
+-- so an outcome refuses exactly if it is an error
+pub refuses_if_err : (outcome : Result ℕ Refusal) → is_err outcome ≡ ltb 0 (numbers_of outcome).code
+refuses_if_err (Ok count) = refl
+refuses_if_err (Err refusal) = sym (coded_refusal refusal)
+
+-- what comes back through a `?` is the refusal that stood there,
+pub came : {Y : Type 0} (outcome : Result Y Refusal) (refusal : Refusal) → IsErrAnd outcome (λ r. r ≡ refusal) → outcome ≡ Err refusal
+came outcome refusal through = let p = err_from_is_err_and outcome through in p.1 ∙ ap Err p.2
+
+-- and through `ok_or(..)?`, where there is nothing, the one that it names
+pub refused_if_none : {X Y : Type 0} (o : Option X) (outcome : Result Y Refusal) (found refusal : Refusal) → IsErrAnd outcome (λ r. r ≡ found)
+    → Err found ≡ ok_or o refusal → o ≡ None → outcome ≡ Err refusal
+refused_if_none o outcome found refusal through said none =
+    let e = came outcome found through in
+    let f : ok_or o refusal ≡ Err refusal = rw none refl in cc
+
+module _ (cs : List Check) where
+  -- the checks refuse: so does the call, and every lent buffer is as it was,
+  pub refusal_handed_on : {B : Type 0} (old : B) (A : ℕ → B → Type 0) (refusal : Refusal) → Checked cs (refusal_of refusal)
+      → Ends cs old A (refusal_of refusal) old
+  refusal_handed_on old A refusal checked = ends_if_refused old A cs (refusal_of refusal) checked (coded_refusal refusal)
+
+  -- also where the refusal came through a `?`,
+  pub refusal_came : {B : Type 0} (old : B) (A : ℕ → B → Type 0) (outcome : Result ℕ Refusal) (refusal : Refusal)
+      → IsErrAnd outcome (λ r. r ≡ refusal) → Checked cs (refusal_of refusal) → Ends cs old A (numbers_of outcome) old
+  refusal_came old A outcome refusal through checked = rw (came outcome refusal through) (refusal_handed_on old A refusal checked)
 
   -- the work may count on the checks,
-  pub checks_passed : refused ≡ false → Passed cs
-  checks_passed e = passed_if_not_refused cs answer checked (sym said ∙ e)
+  pub checks_passed : Checked cs (accepted 0) → Passed cs
+  checks_passed checked = passed_if_not_refused cs (accepted 0) checked refl
 
   -- and what the work did is the call's ending
-  pub work_done : {B : Type 0} (old new : B) (A : ℕ → B → Type 0) (count : ℕ) → refused ≡ false → A count new → Ends cs old A (accepted count) new
-  work_done old new A count e done = ends_if_passed old A cs count new (checks_passed e) done
+  pub work_done : {B : Type 0} (old new : B) (A : ℕ → B → Type 0) (count : ℕ) → Checked cs (accepted 0) → A count new
+      → Ends cs old A (accepted count) new
+  work_done old new A count checked done = ends_if_passed old A cs count new (checks_passed checked) done
 
--- ---- checks that a function makes behind those of another: `refused` is what `answer::refuses` says of the first one's answer
+-- so much for a function that makes its checks by `?` and then works: name it there as `using(answer::proofs::Checking::calling)`
+pub ruleset calling = (came, refusal_handed_on, checks_passed, work_done)
 
-module _ (cs ds : List Check) (first : Answer) (refused : Bool) (checked : Checked cs first) (said : refused ≡ ltb 0 first.code) where
+-- ---- checks that a function makes behind those of another
+
+module _ (cs ds : List Check) where
   -- a refusal of the first ones is that of all,
-  pub refused_before : refused ≡ true → Checked (cs ++ ds) first
-  refused_before e = refused_behind cs ds first checked (sym said ∙ e)
+  pub refused_before : (refusal : Refusal) → Checked cs (refusal_of refusal) → Checked (cs ++ ds) (refusal_of refusal)
+  refused_before refusal checked = refused_behind cs ds (refusal_of refusal) checked (coded_refusal refusal)
+
+  -- also where it came through a `?`,
+  pub refused_through : (verdict : Result (Unit {0}) Refusal) (refusal : Refusal) → IsErrAnd verdict (λ r. r ≡ refusal)
+      → Checked cs (refusal_of refusal) → Checked (cs ++ ds) (verdict_of verdict)
+  refused_through verdict refusal through checked = rw (came verdict refusal through) (refused_before refusal checked)
 
   -- and where they pass the others go on
-  pub passed_before : (answer : Answer) → refused ≡ false → Checked ds answer → Checked (cs ++ ds) answer
-  passed_before answer e then = checked_behind cs ds answer (passed_if_not_refused cs first checked (sym said ∙ e)) then
+  pub passed_before : (answer : Answer) → Checked cs (accepted 0) → Checked ds answer → Checked (cs ++ ds) answer
+  passed_before answer checked then = checked_behind cs ds answer (passed_if_not_refused cs (accepted 0) checked refl) then
+
+-- ---- one check that another function makes
+
+-- it refuses: so do all that begin with it,
+pub refused_first : (c : Check) (cs : List Check) (refusal : Refusal) → Checked (c ∷ []) (refusal_of refusal) → Checked (c ∷ cs) (refusal_of refusal)
+refused_first c cs refusal checked = refused_before (c ∷ []) cs refusal checked
+
+-- and where it passes the others go on
+pub passed_next : (c : Check) (cs : List Check) (answer : Answer) → Checked (c ∷ []) (accepted 0) → Checked cs answer → Checked (c ∷ cs) answer
+passed_next c cs answer checked then = passed_before (c ∷ []) cs answer checked then
 
 -- a call that hands on the numbers of another promises what that one does
 pub numbers_handed_on : {B : Type 0} (cs : List Check) (old new : B) (A : ℕ → B → Type 0) (mine its : Answer)

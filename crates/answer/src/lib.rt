@@ -1,13 +1,13 @@
-// What comes back (RULES 5.1): a case for each way a call can end, and the four numbers that stand for it.
+// What comes back (RULES 5.1): what was counted, or a case for each way a call can refuse, and the four numbers that stand for it.
 // The table of codes is specs/Table.antt; every promise of a call goes through it.
 #![tactic(auto)]
 
-ghost use Rattle.std.specs.Prelude.{◌<◌, ◌≡◌, ltb};
+ghost use Rattle.std.specs.Prelude.{◌≡◌};
 ghost use Rattle.answer.specs.Table.{numbers_of, refused};
 
 // The four numbers of every answer.
 #[repr(C)]
-#[derive(Clone, Copy)]
+#[derive(Clone, Copy, PartialEq, Eq, Debug)]
 pub struct Answer {
     pub code: u64,
     pub operand: u64,
@@ -15,11 +15,9 @@ pub struct Answer {
     pub count: u64,
 }
 
-// How a call ends. Operands count from 1; operand 0 is no single list.
-#[derive(Clone, Copy)]
-pub enum Outcome {
-    // accepted: what was counted
-    Done { count: u64 },
+// Why a call refuses. Operands count from 1; operand 0 is no single list.
+#[derive(Clone, Copy, PartialEq, Eq, Debug)]
+pub enum Refusal {
     // split of the empty list
     Zero,
     // a list or a text that is too long, or a block that says so
@@ -52,8 +50,11 @@ pub enum Outcome {
     Twice { place: u64 },
 }
 
+// How a call ends: what was counted, or why it refuses.
+pub type Outcome = Result<u64, Refusal>;
+
 // The numbers of a refusal.
-fn refusal(code: u64, operand: u64, place: u64) -> Answer
+fn refused(code: u64, operand: u64, place: u64) -> Answer
     ensures { result ≡ refused code operand place }
 {
     Answer {
@@ -64,40 +65,33 @@ fn refusal(code: u64, operand: u64, place: u64) -> Answer
     }
 }
 
-// The four numbers of an outcome.
-pub fn numbers(outcome: Outcome) -> Answer
-    ensures { result ≡ numbers_of outcome }
-{
-    match outcome {
-        Outcome::Done { count } => Answer {
-            code: 0,
-            operand: 0,
-            place: 0,
-            count,
-        },
-        Outcome::Zero => refusal(1, 1, 0),
-        Outcome::TooMany { operand } => refusal(2, operand, 0),
-        Outcome::Order { operand, place } => refusal(3, operand, place),
-        Outcome::Shared => refusal(4, 0, 0),
-        Outcome::TooLarge { operand } => refusal(5, operand, 0),
-        Outcome::Room { operand } => refusal(6, operand, 0),
-        Outcome::Work => refusal(7, 1, 0),
-        Outcome::Form => refusal(8, 1, 0),
-        Outcome::Wide => refusal(9, 1, 0),
-        Outcome::Short { operand } => refusal(10, operand, 0),
-        Outcome::Misfit => refusal(11, 1, 0),
-        Outcome::Extra { operand } => refusal(12, operand, 0),
-        Outcome::Pad => refusal(13, 1, 0),
-        Outcome::Sign { place } => refusal(14, 1, place),
-        Outcome::Twice { place } => refusal(15, 1, place),
-    }
-}
+impl From<Outcome> for Answer {
+    ghost from_gives = { λ outcome answer. answer ≡ numbers_of outcome };
 
-// Whether an outcome refuses.
-pub fn refuses(outcome: Outcome) -> bool
-    ensures { result ≡ ltb 0 (numbers_of outcome).code }
-{
-    let said = numbers(outcome);
-    let code = said.code;
-    0 < code
+    // The four numbers of an outcome.
+    fn from(outcome: Outcome) -> Answer {
+        match outcome {
+            Ok(count) => Answer {
+                code: 0,
+                operand: 0,
+                place: 0,
+                count,
+            },
+            Err(Refusal::Zero) => refused(1, 1, 0),
+            Err(Refusal::TooMany { operand }) => refused(2, operand, 0),
+            Err(Refusal::Order { operand, place }) => refused(3, operand, place),
+            Err(Refusal::Shared) => refused(4, 0, 0),
+            Err(Refusal::TooLarge { operand }) => refused(5, operand, 0),
+            Err(Refusal::Room { operand }) => refused(6, operand, 0),
+            Err(Refusal::Work) => refused(7, 1, 0),
+            Err(Refusal::Form) => refused(8, 1, 0),
+            Err(Refusal::Wide) => refused(9, 1, 0),
+            Err(Refusal::Short { operand }) => refused(10, operand, 0),
+            Err(Refusal::Misfit) => refused(11, 1, 0),
+            Err(Refusal::Extra { operand }) => refused(12, operand, 0),
+            Err(Refusal::Pad) => refused(13, 1, 0),
+            Err(Refusal::Sign { place }) => refused(14, 1, place),
+            Err(Refusal::Twice { place }) => refused(15, 1, place),
+        }
+    }
 }

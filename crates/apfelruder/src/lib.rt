@@ -1,6 +1,7 @@
 // The calls for programs in C and Rust (RULES 5.6): thin over the proved library, each slice a pointer and a length, the four
 // numbers of the answer by value. Each promises what the call of the library promises, word for word. No call asks anything of
-// its caller; each refuses instead.
+// its caller; each refuses instead. The lent buffers of split, audit and deploy stay parameters of their own here, since C lends each by
+// a pointer and a length.
 #![tactic(auto)]
 
 ghost use Rattle.audit.specs.Audit.{AuditEnds};
@@ -13,6 +14,8 @@ ghost use Rattle.text.specs.Calls.{ReadTextEnds, WriteTextEnds};
 
 use answer::Answer;
 use deploy::MAX_BOARDS;
+use narrow::Narrow;
+use parts::Outputs;
 use terms::TermList;
 use text::MAX_BYTES;
 
@@ -29,7 +32,12 @@ pub extern "C" fn apfelruder_split(
         result
         (record { terms = part_terms.new; lengths = part_lengths.new; work = work.new }) }
 {
-    answer::numbers(parts::split(terms, part_terms, part_lengths, work))
+    let mut outputs = Outputs {
+        terms: part_terms,
+        lengths: part_lengths,
+        work,
+    };
+    Answer::from(parts::split::<Narrow>(terms, &mut outputs))
 }
 
 // The product of two term lists that share no variable.
@@ -37,7 +45,7 @@ pub extern "C" fn apfelruder_split(
 pub extern "C" fn apfelruder_multiply(a: &[u64], b: &[u64], out: &mut [u64]) -> Answer
     ensures { MultiplyEnds TermList.MAX_TERMS a.now b.now out.old result out.new }
 {
-    answer::numbers(product::multiply(a, b, out))
+    Answer::from(product::multiply::<Narrow>(a, b, out))
 }
 
 // Whether AD = BC, for four term lists: count 1 for yes, 0 for no.
@@ -45,7 +53,7 @@ pub extern "C" fn apfelruder_multiply(a: &[u64], b: &[u64], out: &mut [u64]) -> 
 pub extern "C" fn apfelruder_same_products(a: &[u64], d: &[u64], b: &[u64], c: &[u64]) -> Answer
     ensures { SameEnds TermList.MAX_TERMS TermList.MAX_VARS a.now d.now b.now c.now result }
 {
-    answer::numbers(same::same_products(a, d, b, c))
+    Answer::from(same::same_products::<Narrow>(a, d, b, c))
 }
 
 // A block read into a term list.
@@ -53,7 +61,7 @@ pub extern "C" fn apfelruder_same_products(a: &[u64], d: &[u64], b: &[u64], c: &
 pub extern "C" fn apfelruder_read(bytes: &[u8], out: &mut [u64]) -> Answer
     ensures { ReadEnds TermList.MAX_TERMS TermList.MAX_VARS bytes.now out.old result out.new }
 {
-    answer::numbers(block::read(bytes, out))
+    Answer::from(block::read(bytes, out))
 }
 
 // A term list written as a block.
@@ -61,7 +69,7 @@ pub extern "C" fn apfelruder_read(bytes: &[u8], out: &mut [u64]) -> Answer
 pub extern "C" fn apfelruder_write(terms: &[u64], out: &mut [u8]) -> Answer
     ensures { WriteEnds TermList.MAX_TERMS terms.now out.old result out.new }
 {
-    answer::numbers(block::write(terms, out))
+    Answer::from(block::write(terms, out))
 }
 
 // A text read into a term list.
@@ -69,7 +77,7 @@ pub extern "C" fn apfelruder_write(terms: &[u64], out: &mut [u8]) -> Answer
 pub extern "C" fn apfelruder_read_text(text: &[u8], out: &mut [u64]) -> Answer
     ensures { ReadTextEnds MAX_BYTES TermList.MAX_TERMS TermList.MAX_VARS text.now out.old result out.new }
 {
-    answer::numbers(text::read_text(text, out))
+    Answer::from(text::read_text(text, out))
 }
 
 // A term list written as text.
@@ -77,7 +85,7 @@ pub extern "C" fn apfelruder_read_text(text: &[u8], out: &mut [u64]) -> Answer
 pub extern "C" fn apfelruder_write_text(terms: &[u64], out: &mut [u8]) -> Answer
     ensures { WriteTextEnds MAX_BYTES TermList.MAX_TERMS terms.now out.old result out.new }
 {
-    answer::numbers(text::write_text(terms, out))
+    Answer::from(text::write_text(terms, out))
 }
 
 // Whether given parts, one behind the other with their lengths, are the parts of an approved term list: count 1 for yes, 0 for no.
@@ -95,14 +103,12 @@ pub extern "C" fn apfelruder_audit(
         result
         (record { terms = part_terms.new; lengths = part_lengths.new; work = work.new }) }
 {
-    answer::numbers(audit::audit(
-        terms,
-        given_terms,
-        given_lengths,
-        part_terms,
-        part_lengths,
+    let mut outputs = Outputs {
+        terms: part_terms,
+        lengths: part_lengths,
         work,
-    ))
+    };
+    Answer::from(audit::audit(terms, given_terms, given_lengths, &mut outputs))
 }
 
 // The parts of each of the term lists of a deployment, which are lent one behind the other with their lengths; four words of answer for each.
@@ -120,5 +126,10 @@ pub extern "C" fn apfelruder_deploy(
         result
         (record { answers = answers.new; outputs = record { terms = part_terms.new; lengths = part_lengths.new; work = work.new } }) }
 {
-    answer::numbers(deploy::deploy(words, lengths, answers, part_terms, part_lengths, work))
+    let mut outputs = Outputs {
+        terms: part_terms,
+        lengths: part_lengths,
+        work,
+    };
+    Answer::from(deploy::deploy(words, lengths, answers, &mut outputs))
 }

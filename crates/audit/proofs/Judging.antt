@@ -2,12 +2,14 @@
 -- polynomial has one list of parts. Assumes nothing.
 use Prim.Native.Nat.{ℕ}
 use mathlib.Core.Path.{◌≡◌, refl, sym, ap, ap₂, ◌∙◌, subst}
-use mathlib.Core.Bool.{Bool, true, false}
+use mathlib.Core.Bool.{Bool, true, false, true≢false}
 use mathlib.Core.List.{List, [], ◌++◌, append-nil}
-use mathlib.Core.Logic.{inl, inr}
+use mathlib.Core.Logic.{◌↔◌, ◌⊎◌, inl, inr}
 use native.Mathlib.Omega.{arith}
 use lib.ListN.{length, take, drop}
 use lib.Seq.{take_at}
+use Rattle.std.specs.Bool.{IsTrue}
+use Rattle.std.specs.Int.{from_bool}
 use Rattle.answer.specs.declared.Answer.{Answer}
 use Rattle.answer.specs.Checked.{Passed}
 use Rattle.answer.proofs.Ends.{passed_accepts}
@@ -17,7 +19,7 @@ use Rattle.taking.specs.Joined.{joined, lengths}
 use Rattle.parts.specs.Split.{Buffers, split_checks, Splits, SplitEnds}
 use Rattle.lists.specs.Lists.{cut, added}
 use Rattle.audit.specs.Audit.{audit_checks, Audited}
-use Rattle.audit.specs.Agree.{Said, Agree}
+use Rattle.audit.specs.Agree.{Agree}
 use Rattle.lists.proofs.Cutting.{length_of_lengths, cut_joined, length_joined, lengths_cut, joined_cut, counted_lengths}
 use Rattle.audit.proofs.Passing.{words_whole}
 
@@ -54,21 +56,18 @@ module _ (f words ls : List ℕ) (old new : Buffers) (parts : ℕ) (whole : adde
       (number ∙ sym splits.2, few ∙ sym (lengths_there (length ls) number), list ∙ sym (words_there (length words) (ap length (sym list))))
 
 -- the verdict is what was said of words and lengths
-pub judged_yes : (max_terms max_vars : ℕ) (f words ls : List ℕ) (old new : Buffers) (parts : ℕ) (r : Bool)
+pub judged : (max_terms max_vars : ℕ) (f words ls : List ℕ) (old new : Buffers) (parts : ℕ) (r : Bool)
     → Passed (audit_checks max_terms max_vars f words ls (length old.terms) (length old.lengths) (length old.work)) → Splits f old parts new
-    → Said (Agree words ls new.terms new.lengths parts) r → r ≡ true → Audited f (cut ls words) old 1 new
-judged_yes max_terms max_vars f words ls old new parts r p splits said e =
-    let whole = words_whole max_terms max_vars f words ls _ _ _ p in
-    let agrees = subst (Said (Agree words ls new.terms new.lengths parts)) e said in
-    (inl (refl, agree_parts f words ls old new parts whole splits agrees), (parts, splits))
+    → (IsTrue r ↔ Agree words ls new.terms new.lengths parts) → Audited f (cut ls words) old (from_bool r) new
+judged max_terms max_vars f words ls old new parts r p splits said = (by r said, (parts, splits))
+  where
+    whole : added ls ≡ length words
+    whole = words_whole max_terms max_vars f words ls _ _ _ p
 
-pub judged_no : (max_terms max_vars : ℕ) (f words ls : List ℕ) (old new : Buffers) (parts : ℕ) (r : Bool)
-    → Passed (audit_checks max_terms max_vars f words ls (length old.terms) (length old.lengths) (length old.work)) → Splits f old parts new
-    → Said (Agree words ls new.terms new.lengths parts) r → r ≡ false → Audited f (cut ls words) old 0 new
-judged_no max_terms max_vars f words ls old new parts r p splits said e =
-    let whole = words_whole max_terms max_vars f words ls _ _ _ p in
-    let differs : ¬ Agree words ls new.terms new.lengths parts = subst (Said (Agree words ls new.terms new.lengths parts)) e said in
-    (inr (refl, λ yes. differs (parts_agree f words ls old new parts whole splits yes)), (parts, splits))
+    by : (r : Bool) → (IsTrue r ↔ Agree words ls new.terms new.lengths parts)
+        → ((from_bool r ≡ 1) × IsParts f (cut ls words)) ⊎ ((from_bool r ≡ 0) × ¬ IsParts f (cut ls words))
+    by true (agrees, _) = inl (refl, agree_parts f words ls old new parts whole splits (agrees refl))
+    by false (_, if_agrees) = inr (refl, λ is. true≢false (sym (if_agrees (parts_agree f words ls old new parts whole splits is))))
 
 -- the number that an accepted split answers
 pub counted_by_split : (max_terms max_vars : ℕ) (f : List ℕ) (old new : Buffers) (its mine : Answer)

@@ -1,4 +1,3 @@
-pub mod Comparing
 pub mod Listed
 pub mod Passing
 pub mod Judging

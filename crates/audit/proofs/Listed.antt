@@ -1,20 +1,22 @@
 -- The checks of audit (specs/Audit.antt), one given part after another. Assumes nothing.
 use Prim.Native.Nat.{ℕ, suc, ◌+◌, ◌≤◌, ◌<◌}
 use native.Mathlib.Numerals.{add-one}
-use mathlib.Core.Path.{◌≡◌, refl, sym, ap, ◌∙◌, subst}
-use mathlib.Core.List.{List, ◌∷◌}
+use mathlib.Core.Path.{◌≡◌, refl, sym, ap, ap₂, ◌∙◌, subst}
+use mathlib.Core.List.{List, [], ◌∷◌}
 use native.Mathlib.Omega.{arith}
 use borrow.Author.Tests.{lt-ltb, le-ltb}
 use lib.Dec.{ltb}
 use lib.ListN.{length, get_or, take, drop}
 use lib.Seq.{drop-cons, drop-length}
 use Rattle.answer.specs.declared.Answer.{Answer}
-use Rattle.answer.specs.Table.{accepted, refused}
+use Rattle.answer.specs.declared.Refusal.{Refusal}
+use Rattle.answer.specs.Table.{accepted, refused, refusal_of}
+use Rattle.answer.specs.Ends.{check}
 use Rattle.answer.specs.Checked.{Checked}
-use Rattle.answer.proofs.Checking.{checking, fails_here, passes_here}
+use Rattle.answer.proofs.Checking.{checking, fails_here, passes_here, refused_first, passed_next}
 use Rattle.terms.specs.Order.{unordered}
 use Rattle.lists.specs.Lists.{cut}
-use Rattle.lists.proofs.Cutting.{cut_from, none_behind}
+use Rattle.lists.proofs.Cutting.{cut_next, none_behind}
 use Rattle.audit.specs.Audit.{long_checks, order_checks}
 
 -- ---- each list, from an operand on
@@ -58,53 +60,53 @@ module _ (most t : ℕ) (ls : List ℕ) where
   none_long i e from =
       from (accepted 0) (subst (λ (l : List ℕ). Checked (long_checks most (i + 2) l) (accepted 0)) (sym (ap (λ (n : ℕ). drop n ls) e ∙ drop-length ls)) (search checking))
 
--- what is answered from the given part at a place on, whose words begin at another, is answered
-abbrev pub OrderFrom : List ℕ → List ℕ → List ℕ → ℕ → ℕ → Type 0
-OrderFrom f words ls i at =
-    (answer : Answer) → Checked (order_checks (i + 2) (cut (drop i ls) (drop at words))) answer → Checked (order_checks 1 (f ∷ cut ls words)) answer
+-- what is answered from the given part at a place on, whose words are the first of the rest, is answered
+abbrev pub OrderFrom : List ℕ → List ℕ → List ℕ → ℕ → List ℕ → Type 0
+OrderFrom f words ls i rest =
+    (answer : Answer) → Checked (order_checks (i + 2) (cut (drop i ls) rest)) answer → Checked (order_checks 1 (f ∷ cut ls words)) answer
 
 module _ (f words ls : List ℕ) where
   -- the approved list is out of order,
-  pub approved_out : (found : ℕ) → found ≡ unordered f → found < length f → Checked (order_checks 1 (f ∷ cut ls words)) (refused 3 1 found)
+  pub approved_out : (refusal : Refusal) → Checked (check (ltb (unordered f) (length f)) 3 1 (unordered f) ∷ []) (refusal_of refusal)
+      → Checked (order_checks 1 (f ∷ cut ls words)) (refusal_of refusal)
   unfolding order_checks
-  approved_out found e h = search checking
+  approved_out refusal checked =
+      refused_first (check (ltb (unordered f) (length f)) 3 1 (unordered f)) (order_checks 2 (cut ls words)) refusal checked
 
   -- or it is not, and the given ones are looked at
-  pub order_from_first : (found : ℕ) → found ≡ unordered f → length f ≤ found → OrderFrom f words ls 0 0
+  pub order_from_first : Checked (check (ltb (unordered f) (length f)) 3 1 (unordered f) ∷ []) (accepted 0) → OrderFrom f words ls 0 words
   unfolding order_checks
-  order_from_first found e h answer c =
-      passes_here (ltb (unordered f) (length f)) 3 1 (unordered f) (order_checks 2 (cut ls words)) answer
-      (le-ltb (unordered f) (length f) (subst (λ (n : ℕ). length f ≤ n) e h)) c
+  order_from_first passed answer c =
+      passed_next (check (ltb (unordered f) (length f)) 3 1 (unordered f)) (order_checks 2 (cut ls words)) answer passed c
 
-  -- the part at a place, its words lent,
-  module _ (i at : ℕ) (part : List ℕ) (here : i < length ls) (lent : part ≡ take (get_or ls i 0) (drop at words)) where
-    there : cut (drop i ls) (drop at words) ≡ part ∷ cut (drop (i + 1) ls) (drop (at + get_or ls i 0) words)
-    there = cut_from ls words i at here ∙ ap (λ (p : List ℕ). p ∷ cut (drop (i + 1) ls) (drop (at + get_or ls i 0) words)) (sym lent)
+  -- the part at a place
+  module _ (i : ℕ) (rest part behind : List ℕ) (here : i < length ls) (front : part ≡ take (get_or ls i 0) rest) (back : behind ≡ drop (get_or ls i 0) rest) where
+    there : cut (drop i ls) rest ≡ part ∷ cut (drop (i + 1) ls) behind
+    there = cut_next ls rest i here ∙ ap₂ (λ (p r : List ℕ). p ∷ cut (drop (i + 1) ls) r) (sym front) (sym back)
 
     -- is out of order,
-    pub given_out : (found : ℕ) → found ≡ unordered part → found < length part → OrderFrom f words ls i at
-        → Checked (order_checks 1 (f ∷ cut ls words)) (refused 3 (i + 2) found)
+    pub given_out : (refusal : Refusal) → Checked (check (ltb (unordered part) (length part)) 3 (i + 2) (unordered part) ∷ []) (refusal_of refusal)
+        → OrderFrom f words ls i rest → Checked (order_checks 1 (f ∷ cut ls words)) (refusal_of refusal)
     unfolding order_checks
-    given_out found e h from =
-        from (refused 3 (i + 2) found)
-        (subst (λ (ps : List (List ℕ)). Checked (order_checks (i + 2) ps) (refused 3 (i + 2) found)) (sym there)
-        (fails_here (ltb (unordered part) (length part)) 3 (i + 2) (unordered part) found
-        (order_checks (suc (i + 2)) (cut (drop (i + 1) ls) (drop (at + get_or ls i 0) words)))
-        (lt-ltb (unordered part) (length part) (subst (λ (n : ℕ). n < length part) e h)) (omega arith) e))
+    given_out refusal checked from =
+        from (refusal_of refusal)
+        (subst (λ (ps : List (List ℕ)). Checked (order_checks (i + 2) ps) (refusal_of refusal)) (sym there)
+        (refused_first (check (ltb (unordered part) (length part)) 3 (i + 2) (unordered part))
+        (order_checks (suc (i + 2)) (cut (drop (i + 1) ls) behind)) refusal checked))
 
     -- or it is not
-    pub order_goes_on : (found : ℕ) → found ≡ unordered part → length part ≤ found → OrderFrom f words ls i at → OrderFrom f words ls (i + 1) (at + get_or ls i 0)
+    pub order_goes_on : Checked (check (ltb (unordered part) (length part)) 3 (i + 2) (unordered part) ∷ []) (accepted 0)
+        → OrderFrom f words ls i rest → OrderFrom f words ls (i + 1) behind
     unfolding order_checks
-    order_goes_on found e h from answer c =
+    order_goes_on passed from answer c =
         from answer
         (subst (λ (ps : List (List ℕ)). Checked (order_checks (i + 2) ps) answer) (sym there)
-        (passes_here (ltb (unordered part) (length part)) 3 (i + 2) (unordered part)
-        (order_checks (suc (i + 2)) (cut (drop (i + 1) ls) (drop (at + get_or ls i 0) words))) answer
-        (le-ltb (unordered part) (length part) (subst (λ (n : ℕ). length part ≤ n) e h))
-        (subst (λ (k : ℕ). Checked (order_checks k (cut (drop (i + 1) ls) (drop (at + get_or ls i 0) words))) answer) (omega arith) c)))
+        (passed_next (check (ltb (unordered part) (length part)) 3 (i + 2) (unordered part))
+        (order_checks (suc (i + 2)) (cut (drop (i + 1) ls) behind)) answer passed
+        (subst (λ (k : ℕ). Checked (order_checks k (cut (drop (i + 1) ls) behind)) answer) (omega arith) c)))
 
   -- none is
-  pub none_out : (i at : ℕ) → i ≡ length ls → OrderFrom f words ls i at → Checked (order_checks 1 (f ∷ cut ls words)) (accepted 0)
+  pub none_out : (i : ℕ) (rest : List ℕ) → i ≡ length ls → OrderFrom f words ls i rest → Checked (order_checks 1 (f ∷ cut ls words)) (accepted 0)
   unfolding order_checks
-  none_out i at e from =
-      from (accepted 0) (subst (λ (ps : List (List ℕ)). Checked (order_checks (i + 2) ps) (accepted 0)) (sym (none_behind ls (drop at words) i e)) (search checking))
+  none_out i rest e from =
+      from (accepted 0) (subst (λ (ps : List (List ℕ)). Checked (order_checks (i + 2) ps) (accepted 0)) (sym (none_behind ls rest i e)) (search checking))

@@ -7,48 +7,46 @@ use borrow.Author.Tests.{ltb-false, ne_eqb}
 use lib.Dec.{ltb, eqb}
 use lib.ListN.{length}
 use Rattle.answer.specs.declared.Answer.{Answer}
-use Rattle.answer.specs.Table.{accepted}
+use Rattle.answer.specs.declared.Refusal.{Refusal}
+use Rattle.answer.specs.Table.{accepted, refusal_of}
 use Rattle.answer.specs.Ends.{Check}
 use Rattle.answer.specs.Checked.{Passed, Checked, both, coded}
 use Rattle.answer.proofs.Ends.{passed_accepts, accepted_passed}
 use Rattle.answer.proofs.Checking.{passed_behind, passed_first, passed_then, passes_here, refused_before, passed_before}
-use Rattle.parts.specs.Split.{Buffers, split_checks}
+use Rattle.parts.specs.Split.{room_checks, Buffers, split_checks}
 use Rattle.lists.specs.Lists.{cut, added, lent_checks}
 use Rattle.lists.proofs.Counting.{words_all}
-use Rattle.audit.specs.Audit.{long_checks, order_checks, room_checks, list_checks, audit_checks, Audited, AuditEnds}
+use Rattle.audit.specs.Audit.{long_checks, order_checks, list_checks, audit_checks, Audited, AuditEnds}
 
--- ---- the checks of one function behind those of another, each by what `answer::refuses` says of the first one's answer
+-- ---- the checks of one function behind those of another
 
-module _ (max_vars : ℕ) (f : List ℕ) (given : List (List ℕ)) (terms lengths work : ℕ) (order : Answer) (refused : Bool)
-    (checked : Checked (order_checks 1 (f ∷ given)) order) (said : refused ≡ ltb 0 order.code) (some : length f ≡ 0 → ⊥) where
-  pub out_of_order : refused ≡ true → Checked (list_checks max_vars f given terms lengths work) order
-  out_of_order e =
-      passes_here (eqb (length f) 0) 1 1 0 _ order (ne_eqb (length f) 0 some)
-      (refused_before (order_checks 1 (f ∷ given)) (room_checks max_vars (length f) terms lengths work) order refused checked said e)
+module _ (max_vars : ℕ) (f : List ℕ) (given : List (List ℕ)) (terms lengths work : ℕ) (some : eqb (length f) 0 ≡ false) where
+  pub out_of_order : (refusal : Refusal) → Checked (order_checks 1 (f ∷ given)) (refusal_of refusal)
+      → Checked (list_checks max_vars f given terms lengths work) (refusal_of refusal)
+  out_of_order refusal order =
+      passes_here (eqb (length f) 0) 1 1 0 _ (refusal_of refusal) some (refused_before (order_checks 1 (f ∷ given)) _ refusal order)
 
-  pub in_order : (answer : Answer) → refused ≡ false → Checked (room_checks max_vars (length f) terms lengths work) answer
+  pub in_order : (answer : Answer) → Checked (order_checks 1 (f ∷ given)) (accepted 0) → Checked (room_checks max_vars (length f) terms lengths work) answer
       → Checked (list_checks max_vars f given terms lengths work) answer
-  in_order answer e then =
-      passes_here (eqb (length f) 0) 1 1 0 _ answer (ne_eqb (length f) 0 some)
-      (passed_before (order_checks 1 (f ∷ given)) (room_checks max_vars (length f) terms lengths work) order refused checked said answer e then)
+  in_order answer order then =
+      passes_here (eqb (length f) 0) 1 1 0 _ answer some (passed_before (order_checks 1 (f ∷ given)) _ answer order then)
 
-module _ (max_terms max_vars : ℕ) (f words ls : List ℕ) (terms lengths work : ℕ) (whole : Answer) (refused : Bool)
-    (checked : Checked (lent_checks max_vars (length words) ls) whole) (said : refused ≡ ltb 0 whole.code) where
-  pub not_whole : refused ≡ true → Checked (audit_checks max_terms max_vars f words ls terms lengths work) whole
-  not_whole = refused_before (lent_checks max_vars (length words) ls) _ whole refused checked said
+module _ (max_terms max_vars : ℕ) (f words ls : List ℕ) (terms lengths work : ℕ) where
+  pub not_whole : (refusal : Refusal) → Checked (lent_checks max_vars (length words) ls) (refusal_of refusal)
+      → Checked (audit_checks max_terms max_vars f words ls terms lengths work) (refusal_of refusal)
+  not_whole refusal whole = refused_before (lent_checks max_vars (length words) ls) _ refusal whole
 
-  module _ (passes : refused ≡ false) (long : Answer) (refused' : Bool) (checked' : Checked (long_checks max_terms 1 (length f ∷ ls)) long)
-      (said' : refused' ≡ ltb 0 long.code) where
-    pub too_long : refused' ≡ true → Checked (audit_checks max_terms max_vars f words ls terms lengths work) long
-    too_long e =
-        passed_before (lent_checks max_vars (length words) ls) _ whole refused checked said long passes
-        (refused_before (long_checks max_terms 1 (length f ∷ ls)) _ long refused' checked' said' e)
+  pub too_long : (refusal : Refusal) → Checked (lent_checks max_vars (length words) ls) (accepted 0)
+      → Checked (long_checks max_terms 1 (length f ∷ ls)) (refusal_of refusal)
+      → Checked (audit_checks max_terms max_vars f words ls terms lengths work) (refusal_of refusal)
+  too_long refusal whole long =
+      passed_before (lent_checks max_vars (length words) ls) _ (refusal_of refusal) whole (refused_before (long_checks max_terms 1 (length f ∷ ls)) _ refusal long)
 
-    pub long_passed : (answer : Answer) → refused' ≡ false → Checked (list_checks max_vars f (cut ls words) terms lengths work) answer
-        → Checked (audit_checks max_terms max_vars f words ls terms lengths work) answer
-    long_passed answer e then =
-        passed_before (lent_checks max_vars (length words) ls) _ whole refused checked said answer passes
-        (passed_before (long_checks max_terms 1 (length f ∷ ls)) _ long refused' checked' said' answer e then)
+  pub long_passed : (answer : Answer) → Checked (lent_checks max_vars (length words) ls) (accepted 0)
+      → Checked (long_checks max_terms 1 (length f ∷ ls)) (accepted 0) → Checked (list_checks max_vars f (cut ls words) terms lengths work) answer
+      → Checked (audit_checks max_terms max_vars f words ls terms lengths work) answer
+  long_passed answer whole long then =
+      passed_before (lent_checks max_vars (length words) ls) _ answer whole (passed_before (long_checks max_terms 1 (length f ∷ ls)) _ answer long then)
 
 -- ---- what passed checks tell
 

@@ -1,10 +1,5 @@
 -- What the comparison of words says. Nothing here has to be believed: it carries the proof of audit's promise (Audit.antt).
-use Rattle.std.specs.Prelude.{ℕ, ◌≡◌, Bool, true, false, List, length, take}
-
--- true exactly if the claim holds
-abbrev pub Said : Type 0 → Bool → Type 0
-Said claim true = claim
-Said claim false = ¬ claim
+use Rattle.std.specs.Prelude.{ℕ, ◌≡◌, List, length, take}
 
 -- the list begins with the front
 abbrev pub Front : List ℕ → List ℕ → Type 0

@@ -1,12 +1,12 @@
 -- How audit ends, for every approved list, whatever parts are given and whatever is lent (docs/RULES.md, 13). The operands are the approved
 -- list, then the given parts in their order. The limits are those of the term list and come in as numbers.
-use Rattle.std.specs.Prelude.{ℕ, suc, ◌+◌, ◌*◌, ◌≡◌, List, [], ◌∷◌, ◌++◌, ◌⊎◌, ltb, eqb, length}
+use Rattle.std.specs.Prelude.{ℕ, suc, ◌≡◌, List, [], ◌∷◌, ◌++◌, ◌⊎◌, ltb, eqb, length}
 use Rattle.answer.specs.declared.Answer.{Answer}
 use Rattle.answer.specs.Ends.{Check, check, Ends}
 use Rattle.polys.specs.Parts.{IsParts}
 use Rattle.terms.specs.Order.{unordered}
 use Rattle.lists.specs.Lists.{cut, lent_checks}
-use Rattle.parts.specs.Split.{Buffers, Splits}
+use Rattle.parts.specs.Split.{Buffers, Splits, room_checks}
 
 -- for each length, from this operand on: the list is not too long
 unfoldable pub long_checks : ℕ → ℕ → List ℕ → List Check
@@ -17,14 +17,6 @@ long_checks max_terms operand (l ∷ ls) = check (ltb max_terms l) 2 operand 0 �
 unfoldable pub order_checks : ℕ → List (List ℕ) → List Check
 order_checks operand [] = []
 order_checks operand (p ∷ ps) = check (ltb (unordered p) (length p)) 3 operand (unordered p) ∷ order_checks (suc operand) ps
-
--- as split asks it: there is room for the parts of t terms, for their lengths and for the work
-abbrev pub room_checks : ℕ → ℕ → ℕ → ℕ → ℕ → List Check
-room_checks max_vars t terms lengths work =
-    check (ltb terms (t + max_vars)) 6 1 0
-    ∷ check (ltb lengths max_vars) 6 1 0
-    ∷ check (ltb work (4 * t)) 7 1 0
-    ∷ []
 
 -- the approved list has terms, all lists ascend, and there is room
 abbrev pub list_checks : ℕ → List ℕ → List (List ℕ) → ℕ → ℕ → ℕ → List Check

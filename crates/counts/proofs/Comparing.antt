@@ -1,8 +1,8 @@
 -- Products of counters: that there is room for them, where they differ, and what that says of x. Leans on Planes and Terms.
-use mathlib.Core.Path.{◌≡◌, refl, sym, ap, ap₂, ◌∙◌, subst}
+use mathlib.Core.Path.{◌≡◌, refl, sym, ap, ap₂, ◌∙◌}
 use mathlib.Core.Bool.{Bool, true, false, ◌||◌, xor, false≢true}
 use mathlib.Core.List.{List}
-use Prim.Native.Nat.{ℕ, ◌*◌, ◌^◌, ◌≤◌, ◌<◌}
+use Prim.Native.Nat.{ℕ, ◌+◌, ◌*◌, ◌^◌, ◌≤◌, ◌<◌}
 use native.Mathlib.Nat.{mul-le-mul}
 use native.Mathlib.Omega.{arith}
 use lib.Bits.{bit_and, bit_or, bit_xor}
@@ -13,7 +13,7 @@ use Rattle.masks.proofs.Lowest.{low, low_is_lowest}
 use Rattle.masks.proofs.Reflect.{identity, ∅, ◌∩◌, ◌≐◌, ∴◌}
 use Rattle.masks.proofs.Sets.{and_subset, and_subset_right, bit_of_subset}
 use Rattle.splitting.proofs.Holding.{having}
-use Rattle.counts.specs.Planes.{count_at, holding, Room, Added, Tallied, Ties}
+use Rattle.counts.specs.Planes.{count_at, holding, Room, Added, Ties}
 use Rattle.counts.proofs.Planes.{count_below, count_zeros, same_planes}
 use Rattle.counts.proofs.Terms.{holding_below, holding_own, holding_alone}
 
@@ -22,21 +22,24 @@ pub terms_room : (x : ℕ) (f planes : List ℕ) → planes ≡ replicate 16 0 �
 terms_room x f planes none short v =
     omega (arith, ap (λ l. count_at l v) none, ap (λ l. 2 ^ length l) none, count_zeros 16 v, holding_below x f v)
 
--- and count it there
-pub tallied : (x : ℕ) (f planes after : List ℕ) → x ≡ 0 → planes ≡ replicate 16 0 → length f ≤ 65535 → Added planes (holding x f) after
-    → Tallied f after
-tallied x f planes after all none short counted =
-    (short, subst (λ (l : List ℕ). Added l (holding 0 f) after) none (subst (λ (n : ℕ). Added planes (holding n f) after) all counted))
-
--- twice as many have room for the products of such counters
-pub product_room : (sum by planes : List ℕ) (w : ℕ) → sum ≡ replicate 32 0 → length by ≡ 16 → length planes ≡ 16
-    → Room sum (λ (v : ℕ). count_at by w * count_at planes v)
-product_room sum by planes w none size size' v =
-    let product : count_at by w * count_at planes v ≤ 65535 * 65535 = mul-le-mul (below by w size) (below planes v size') in
-    omega (arith, ap (λ l. count_at l v) none, ap (λ l. 2 ^ length l) none, count_zeros 32 v)
+-- twice as many have room for the products of such counters, one of them that of the variable of b
+pub product_room : (sum by planes : List ℕ) (b w : ℕ) → b ≡ 2 ^ w → sum ≡ replicate 32 0 → length by ≡ 16 → length planes ≡ 16
+    → ((w : ℕ) × (b ≡ 2 ^ w) × Room sum (λ (v : ℕ). count_at by w * count_at planes v)) × (length by + length planes ≤ length sum)
+product_room sum by planes b w is none size size' =
+    ((w, is, room), omega (arith, ap length none))
   where
     below : (l : List ℕ) (v : ℕ) → length l ≡ 16 → count_at l v ≤ 65535
     below l v e = omega (arith, count_below l v, ap (λ k. 2 ^ k) e)
+
+    room : Room sum (λ (v : ℕ). count_at by w * count_at planes v)
+    room v =
+        let product : count_at by w * count_at planes v ≤ 65535 * 65535 = mul-le-mul (below by w size) (below planes v size') in
+        omega (arith, ap (λ l. count_at l v) none, ap (λ l. 2 ^ length l) none, count_zeros 32 v)
+
+-- what was added to empty planes stands there
+pub from_empty : (planes after : List ℕ) (more : ℕ → ℕ) (k : ℕ) → planes ≡ replicate k 0 → Added planes more after
+    → (v : ℕ) → count_at after v ≡ more v
+from_empty planes after more k none added v = omega (arith, added.counts v, ap (λ l. count_at l v) none, count_zeros k v)
 
 -- no difference in a plane where the bits agree
 no_difference : (d x y v : ℕ) → bit d v ≡ false → bit x v ≡ bit y v → bit (bit_or d (bit_xor x y)) v ≡ false

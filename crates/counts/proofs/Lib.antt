@@ -2,5 +2,6 @@
 pub mod Digits
 pub mod Terms
 pub mod Planes
+pub mod Words
 pub mod Products
 pub mod Comparing

@@ -1,46 +1,42 @@
 -- Planes added to planes, once and as often as a counter says; and the digits of a number. Leans on Planes.
 use mathlib.Core.Path.{◌≡◌, refl, sym, ap, ap₂, ◌∙◌}
-use mathlib.Core.List.{List, ◌∷◌, ◌++◌, append-nil}
+use mathlib.Core.List.{List, ◌∷◌}
 use Prim.Native.Nat.{ℕ, zero, suc, ◌+◌, ◌-◌, ◌*◌, ◌/◌, ◌^◌, ◌≤◌, ◌<◌}
-use native.Mathlib.Nat.{mul-add, add-mul, mul_comm, mul_assoc, mul-zero, zero-mul, zero-add, pow-succ'}
+use native.Mathlib.Nat.{zero-add, pow-succ'}
 use native.Mathlib.Numerals.{add-one}
 use native.Mathlib.Omega.{arith}
-use lib.ListN.{length, get_or, drop, set, replicate, drop_of_length-le}
-use lib.Seq.{drop-length, drop-cons, take_all, paste, paste-suc}
-use Rattle.counts.specs.Planes.{digit, count_at, halves}
+use lib.ListN.{length, get_or, drop, set, replicate, length-set}
+use lib.Seq.{drop-length, drop-cons, paste, paste-suc}
+use Rattle.counts.specs.Planes.{digit, count_at, Gained, halves}
 use Rattle.counts.proofs.Digits.{digit_none, digit_first}
 use Rattle.counts.proofs.Planes.{count_set, count_from, power_next}
 
-swap : (m r k : ℕ) → m * (r * k) ≡ r * (m * k)
-swap m r k = sym (mul_assoc m r k) ∙ ap (λ n. n * k) (mul_comm m r) ∙ mul_assoc r m k
+-- where low is written to the plane p, and high is to carry on
+pub plane_gained : (l after : List ℕ) (j p a b low high : ℕ) → j < length l → p ≡ get_or l j 0 → after ≡ set l j low
+    → ((v : ℕ) → digit p v + digit a v + digit b v ≡ digit low v + 2 * digit high v)
+    → Gained l (λ v. 2 ^ j * (digit a v + digit b v)) (λ v. 2 ^ (j + 1) * digit high v) after
+plane_gained l after j p a b low high within is written adds = record {
+  size = ap length written ∙ length-set l j low;
+  counts = λ v.
+      let put : count_at after v + 2 ^ j * digit p v ≡ count_at l v + 2 ^ j * digit low v = cc (count_set l j low v within) in
+      omega (arith, ap (λ n. 2 ^ j * n) (adds v), ap (λ m. m * digit high v) (power_next j));
+}
 
--- the step of adding planes, in numbers: m is the weight of the plane
-plane_sum : (m s t p q c low high rest : ℕ) → t + m * p ≡ s + m * low → p + q + c ≡ low + 2 * high
-    → t + 2 * m * (high + rest) ≡ s + m * (c + (q + 2 * rest))
-plane_sum m s t p q c low high rest e g =
-    let left : m * (p + q + c) ≡ m * p + m * q + m * c = mul-add m (p + q) c ∙ ap (λ n. n + m * c) (mul-add m p q) in
-    let right : m * (low + 2 * high) ≡ m * low + 2 * (m * high) = mul-add m low (2 * high) ∙ ap (λ n. m * low + n) (swap m 2 high) in
-    let both : m * (p + q + c) ≡ m * (low + 2 * high) = ap (λ n. m * n) g in
-    let carry : 2 * m * (high + rest) ≡ 2 * (m * high + m * rest) = mul_assoc 2 m (high + rest) ∙ ap (λ n. 2 * n) (mul-add m high rest) in
-    let goal : m * (c + (q + 2 * rest)) ≡ m * c + (m * q + 2 * (m * rest)) =
-    mul-add m c (q + 2 * rest) ∙ ap (λ n. m * c + n) (mul-add m q (2 * rest) ∙ ap (λ n. m * q + n) (swap m 2 rest))
-    in
-    omega arith
-
--- one plane q is added to one, p
-pub plane_added : (sum planes after : List ℕ) (at j p q c low high v : ℕ) → p ≡ get_or sum (at + j) 0 → q ≡ get_or planes j 0
-    → after ≡ set sum (at + j) low → at + j < length sum → j < length planes
-    → digit p v + digit q v + digit c v ≡ digit low v + 2 * digit high v
-    → count_at after v + 2 ^ (at + (j + 1)) * (digit high v + count_at (drop (j + 1) planes) v)
-    ≡ count_at sum v + 2 ^ (at + j) * (digit c v + count_at (drop j planes) v)
-plane_added sum planes after at j p q c low high v is is' written within more e =
+-- the plane q, which is plane j, and the carry c were added to plane at + j, and it all comes to the same
+pub plane_added : (sum planes after : List ℕ) (at j q c high total v : ℕ) → q ≡ get_or planes j 0 → j < length planes
+    → count_at after v + 2 ^ (at + j + 1) * digit high v ≡ count_at sum v + 2 ^ (at + j) * (digit q v + digit c v)
+    → count_at sum v + 2 ^ (at + j) * (digit c v + count_at (drop j planes) v) ≡ total
+    → count_at after v + 2 ^ (at + (j + 1)) * (digit high v + count_at (drop (j + 1) planes) v) ≡ total
+plane_added sum planes after at j q c high total v is more e so_far =
+    let rest = count_at (drop (j + 1) planes) v in
+    let from : digit q v + 2 * rest ≡ count_at (drop j planes) v = cc (count_from planes j v more) in
     let next : at + (j + 1) ≡ at + j + 1 = omega arith in
-    let put : count_at after v + 2 ^ (at + j) * digit p v ≡ count_at sum v + 2 ^ (at + j) * digit low v = cc (count_set sum (at + j) low v within) in
-    let from : digit q v + 2 * count_at (drop (j + 1) planes) v ≡ count_at (drop j planes) v = cc (count_from planes j v more) in
-    ap (λ k. count_at after v + k * (digit high v + count_at (drop (j + 1) planes) v)) (ap (λ k. 2 ^ k) next ∙ power_next (at + j))
-    ∙ plane_sum (2 ^ (at + j)) (count_at sum v) (count_at after v) (digit p v) (digit q v) (digit c v) (digit low v) (digit high v)
-    (count_at (drop (j + 1) planes) v) put e
-    ∙ ap (λ k. count_at sum v + 2 ^ (at + j) * (digit c v + k)) from
+    omega (
+      arith,
+      ap (λ n. 2 ^ (at + j) * n) from,
+      ap (λ m. m * digit high v) (power_next (at + j)),
+      ap (λ m. m * (digit high v + rest)) (ap (λ k. 2 ^ k) next ∙ power_next (at + j)),
+    )
 
 -- behind the last plane only the carry is left
 pub planes_over : (planes : List ℕ) (j v : ℕ) → j ≡ length planes → count_at (drop j planes) v ≡ 0
@@ -54,11 +50,11 @@ planes_start sum planes at c e v =
     let none : digit c v + count_at planes v ≡ count_at planes v = omega (arith, ap (λ n. digit n v) e, digit_none v) in
     ap₂ (λ (k d : ℕ). count_at sum v + 2 ^ k * d) here none
 
-pub carry_left : (planes : List ℕ) (at j c v : ℕ) → j ≡ length planes
-    → 2 ^ (at + j) * (digit c v + count_at (drop j planes) v) ≡ 2 ^ (at + j) * digit c v
-carry_left planes at j c v e =
-    let none : digit c v + count_at (drop j planes) v ≡ digit c v = omega (arith, planes_over planes j v e) in
-    ap (λ k. 2 ^ (at + j) * k) none
+pub carry_left : (planes : List ℕ) (at j n c v : ℕ) → j ≡ n → n ≡ length planes
+    → 2 ^ (at + j) * (digit c v + count_at (drop j planes) v) ≡ 2 ^ (at + n) * digit c v
+carry_left planes at j n c v e all =
+    let none : digit c v + count_at (drop j planes) v ≡ digit c v = omega (arith, planes_over planes j v (e ∙ all)) in
+    ap₂ (λ k d. 2 ^ (at + k) * d) e none
 
 -- ---- planes as often as a counter says, by the planes of that counter
 
@@ -68,13 +64,11 @@ pub times_step : (by : List ℕ) (j w k d : ℕ) → j < length by → digit (ge
 times_step by j w k d h e =
     let rest = count_at (drop (j + 1) by) w in
     let here : count_at (drop j by) w ≡ 2 * rest + d = omega (arith, count_from by j w h, e) in
-    let split : (2 * rest + d) * k ≡ 2 * (rest * k) + d * k = add-mul (2 * rest) d k ∙ ap (λ n. n + d * k) (mul_assoc 2 rest k) in
-    ap (λ n. 2 ^ j * n) (ap (λ n. n * k) here ∙ split) ∙ mul-add (2 ^ j) (2 * (rest * k)) (d * k)
-    ∙ ap₂ ◌+◌ (swap (2 ^ j) 2 (rest * k) ∙ sym (ap (λ n. n * (rest * k)) (power_next j) ∙ mul_assoc 2 (2 ^ j) (rest * k))) (swap (2 ^ j) d k)
+    omega (arith, ap (λ n. 2 ^ j * (n * k)) here, ap (λ m. m * (rest * k)) (power_next j))
 
 -- behind the last plane there is none
 pub times_over : (by : List ℕ) (j w k : ℕ) → j ≡ length by → 2 ^ j * (count_at (drop j by) w * k) ≡ 0
-times_over by j w k e = ap (λ n. 2 ^ j * n) (ap (λ n. n * k) (planes_over by j w e) ∙ zero-mul k) ∙ mul-zero (2 ^ j)
+times_over by j w k e = omega (arith, ap (λ n. 2 ^ j * (n * k)) (planes_over by j w e))
 
 -- ---- the digits of a number
 
@@ -106,15 +100,10 @@ next_half k n i m within e =
       ap (λ (j : ℕ). drop j (halves k n)) (add-one i) ∙ ap (drop 1) here,
     )
 
--- written so far, one more, and all
+-- written so far, and one more
 pub halves_more : (out : List ℕ) (n i m : ℕ) → i < length out → get_or (halves (length out) n) i 0 ≡ m
     → set (paste out 0 (halves (length out) n) i) i m ≡ paste out 0 (halves (length out) n) (i + 1)
 halves_more out n i m within is =
     let h = halves (length out) n in
     ap₂ (λ (j v : ℕ). set (paste out 0 h i) j v) (sym (zero-add i)) (sym is)
     ∙ paste-suc out 0 h i 0 (omega arith) (omega (arith, length_halves (length out) n)) ∙ ap (paste out 0 h) (sym (add-one i))
-
-pub halves_all : (out : List ℕ) (n i : ℕ) → i ≡ length out → paste out 0 (halves (length out) n) i ≡ halves (length out) n
-halves_all out n i e =
-    let h = halves (length out) n in
-    ap₂ ◌++◌ (take_all i h (omega (arith, length_halves (length out) n))) (drop_of_length-le out {i = 0 + i} (omega arith)) ∙ append-nil h

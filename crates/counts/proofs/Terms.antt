@@ -80,10 +80,6 @@ module _ (x : ℕ) (f : List ℕ) where
       ap (λ l. holding x l v) (drop-cons f i 0 h ∙ ap₂ (λ n k. n ∷ drop k f) (sym is) (sym (add-one i) ∙ e))
       ∙ having_cons (bit_or x (2 ^ v)) t (drop j f)
 
-  -- the terms from a place on, however the place is written
-  pub from : (i j v : ℕ) → i ≡ j → holding x (drop i f) v ≡ holding x (drop j f) v
-  from i j v e = ap (λ k. holding x (drop k f) v) e
-
   -- behind the end there is none
   pub none_left : (i v : ℕ) → i ≡ length f → holding x (drop i f) v ≡ 0
   unfolding holding having

@@ -2,316 +2,220 @@
 // and written as a term is.
 #![tactic(auto)]
 
-ghost use Rattle.std.specs.Prelude.{◌≡◌, [], ◌∷◌, false, ℕ, ◌+◌, ◌*◌, ◌≤◌, ◌^◌, replicate, length, drop};
+ghost use Rattle.std.specs.Prelude.{◌≡◌, [], ◌∷◌, false, ℕ, ◌+◌, ◌*◌, ◌≤◌, ◌<◌, ◌^◌, replicate, length, drop};
 ghost use Rattle.masks.specs.Bit.{bit};
-ghost use Rattle.narrow.specs.Numbers.{value, numbers};
-ghost use Rattle.counts.specs.Planes.{digit, count_at, holding, halves, Room, Added, Tallied, Ties};
+ghost use Rattle.counts.specs.Planes.{digit, count_at, holding, halves, Room, Gained, Taken, Added, Tallied, Ties};
 
-use narrow::Term;
+use term::Term;
 
-// In each place, a sum of bits: low, and twice high.
-#[derive(Clone, Copy)]
-pub struct Sum {
-    pub low: Term,
-    pub high: Term,
+// Adds a and b to plane j, a full adder in each place, and says what carries on into the next plane.
+fn add<T: Term>(planes: &mut [u64], j: usize, a: T, b: T) -> T
+    requires { j < length (T.numbers planes.old) }
+    ensures { Gained (T.numbers planes.old) (λ (v : ℕ). 2 ^ j * (digit (T.value a) v + digit (T.value b) v))
+        (λ (v : ℕ). 2 ^ (j + 1) * digit (T.value result) v) (T.numbers planes.new) }
+{
+    let p = T::at(planes, j);
+    let half = p.xor(a);
+    T::put(planes, j, half.xor(b));
+    p.and(a).or(half.and(b))
 }
 
-// A full adder in each place.
-fn add(a: Term, b: Term, c: Term) -> Sum
-    ensures { (v : ℕ) → digit (value a) v + digit (value b) v + digit (value c) v
-        ≡ digit (value result.low) v + 2 * digit (value result.high) v }
-{
-    let half = narrow::xor(a, b);
-    Sum {
-        low: narrow::xor(half, c),
-        high: narrow::or(narrow::and(a, b), narrow::and(half, c)),
+// A list of terms, and the set that a term has to hold to be counted.
+#[derive(Drop)]
+struct Asked<'a, T> {
+    f: &'a [u64],
+    x: T,
+}
+
+// `two` to `sixteen` are written out, since the compiler lays them out in a row: one recursion on the number of terms takes six times as
+// long.
+impl<T: Term> Asked<'_, T> {
+    // The term at i if it holds all of x, and else none of its variables.
+    fn held(&self, i: usize) -> T
+        requires { i < length (T.numbers self.now.f.now) }
+        ensures { (v : ℕ) → digit (T.value result) v + holding (T.value self.now.x) (drop (i + 1) (T.numbers self.now.f.now)) v
+            ≡ holding (T.value self.now.x) (drop i (T.numbers self.now.f.now)) v }
+    {
+        let t = T::at(self.f, i);
+        if t.and(self.x).same(self.x) {
+            t
+        } else {
+            T::none()
+        }
     }
-}
 
-// The term t if it holds all of x, and else none of its variables.
-fn held(t: Term, x: Term) -> Term
-    ensures { (v : ℕ) → digit (value result) v ≡ holding (value x) (value t ∷ []) v }
-{
-    if narrow::same(narrow::and(t, x), x) {
-        t
-    } else {
-        narrow::none()
+    // Adds the two terms from i on to the ones, and says what carries on into the twos.
+    fn two(&self, low: &mut [u64], i: usize) -> T
+        requires { (i + 2 ≤ length (T.numbers self.now.f.now)) × (1 ≤ length (T.numbers low.old)) }
+        ensures { Taken (T.numbers low.old) (T.value self.now.x) (T.numbers self.now.f.now) i 2 (T.value result) (T.numbers low.new) }
+    {
+        let s = self.held(i);
+        let t = self.held(i + 1);
+        add(low, 0, s, t)
     }
-}
 
-// The two terms from i on, added to the ones.
-fn add_two(f: &[u64], x: Term, i: usize, ones: Term) -> Sum
-    requires { i + 2 ≤ length (numbers f.now) }
-    ensures { (v : ℕ) → digit (value ones) v + holding (value x) (drop i (numbers f.now)) v
-        ≡ digit (value result.low) v + 2 * digit (value result.high) v + holding (value x) (drop (i + 2) (numbers f.now)) v }
-{
-    let s = held(narrow::at(f, i), x);
-    let t = held(narrow::at(f, i + 1), x);
-    add(ones, s, t)
-}
+    // Adds the four terms from i on to the ones and twos, and says what carries on into the fours.
+    fn four(&self, low: &mut [u64], i: usize) -> T
+        requires { (i + 4 ≤ length (T.numbers self.now.f.now)) × (2 ≤ length (T.numbers low.old)) }
+        ensures { Taken (T.numbers low.old) (T.value self.now.x) (T.numbers self.now.f.now) i 4 (T.value result) (T.numbers low.new) }
+    {
+        let s = self.two(low, i);
+        let t = self.two(low, i + 2);
+        add(low, 1, s, t)
+    }
 
-// The low planes after four terms, and what they carry on.
-#[derive(Clone, Copy)]
-pub struct Fours {
-    pub ones: Term,
-    pub twos: Term,
-    pub fours: Term,
-}
+    // Adds the eight terms from i on to the ones, twos and fours, and says what carries on into the eights.
+    fn eight(&self, low: &mut [u64], i: usize) -> T
+        requires { (i + 8 ≤ length (T.numbers self.now.f.now)) × (3 ≤ length (T.numbers low.old)) }
+        ensures { Taken (T.numbers low.old) (T.value self.now.x) (T.numbers self.now.f.now) i 8 (T.value result) (T.numbers low.new) }
+    {
+        let s = self.four(low, i);
+        let t = self.four(low, i + 4);
+        add(low, 2, s, t)
+    }
 
-// The four terms from i on, added to the ones and twos.
-fn add_four(f: &[u64], x: Term, i: usize, ones: Term, twos: Term) -> Fours
-    requires { i + 4 ≤ length (numbers f.now) }
-    ensures { (v : ℕ) → digit (value ones) v + 2 * digit (value twos) v + holding (value x) (drop i (numbers f.now)) v
-        ≡ digit (value result.ones) v + 2 * digit (value result.twos) v + 4 * digit (value result.fours) v
-        + holding (value x) (drop (i + 4) (numbers f.now)) v }
-{
-    let a = add_two(f, x, i, ones);
-    let b = add_two(f, x, i + 2, a.low);
-    let s = add(twos, a.high, b.high);
-    let ones = b.low;
-    let twos = s.low;
-    let fours = s.high;
-    Fours { ones, twos, fours }
-}
-
-// The low planes after eight terms, and what they carry on.
-#[derive(Clone, Copy)]
-pub struct Eights {
-    pub ones: Term,
-    pub twos: Term,
-    pub fours: Term,
-    pub eights: Term,
-}
-
-// The eight terms from i on, added to the ones, twos and fours.
-fn add_eight(f: &[u64], x: Term, i: usize, ones: Term, twos: Term, fours: Term) -> Eights
-    requires { i + 8 ≤ length (numbers f.now) }
-    ensures { (v : ℕ) → digit (value ones) v + 2 * digit (value twos) v + 4 * digit (value fours) v
-        + holding (value x) (drop i (numbers f.now)) v
-        ≡ digit (value result.ones) v + 2 * digit (value result.twos) v + 4 * digit (value result.fours) v + 8 * digit (value result.eights) v
-        + holding (value x) (drop (i + 8) (numbers f.now)) v }
-{
-    let a = add_four(f, x, i, ones, twos);
-    let b = add_four(f, x, i + 4, a.ones, a.twos);
-    let s = add(fours, a.fours, b.fours);
-    let ones = b.ones;
-    let twos = b.twos;
-    let fours = s.low;
-    let eights = s.high;
-    Eights {
-        ones,
-        twos,
-        fours,
-        eights,
+    // Adds the sixteen terms from i on to the ones, twos, fours and eights, and says what carries on into the sixteens.
+    fn sixteen(&self, low: &mut [u64], i: usize) -> T
+        requires { (i + 16 ≤ length (T.numbers self.now.f.now)) × (4 ≤ length (T.numbers low.old)) }
+        ensures { Taken (T.numbers low.old) (T.value self.now.x) (T.numbers self.now.f.now) i 16 (T.value result) (T.numbers low.new) }
+    {
+        let s = self.eight(low, i);
+        let t = self.eight(low, i + 8);
+        add(low, 3, s, t)
     }
 }
 
 // Adds 2^at to the counter of every variable of `word`.
-fn carry(planes: &mut [u64], at: usize, word: Term)
-    requires { Room (numbers planes.old) (λ (v : ℕ). 2 ^ at * digit (value word) v) }
-    ensures { Added (numbers planes.old) (λ (v : ℕ). 2 ^ at * digit (value word) v) (numbers planes.new) }
+fn carry<T: Term>(planes: &mut [u64], at: usize, word: T)
+    requires { Room (T.numbers planes.old) (λ (v : ℕ). 2 ^ at * digit (T.value word) v) }
+    ensures { Added (T.numbers planes.old) (λ (v : ℕ). 2 ^ at * digit (T.value word) v) (T.numbers planes.new) }
 {
     let mut c = word;
     let mut j = at;
-    while !narrow::empty(c) {
-        let p = narrow::at(planes, j);
-        narrow::put(planes, j, narrow::xor(p, c));
-        c = narrow::and(p, c);
+    // A `for` up to the last plane asks twice, and takes a twentieth more time.
+    while !c.empty() {
+        let p = T::at(planes, j);
+        T::put(planes, j, p.xor(c));
+        c = p.and(c);
         j += 1;
-    }
-}
-
-// The low planes after sixteen terms, and what they carry on.
-#[derive(Clone, Copy)]
-pub struct Sixteens {
-    pub ones: Term,
-    pub twos: Term,
-    pub fours: Term,
-    pub eights: Term,
-    pub sixteens: Term,
-}
-
-// The sixteen terms from i on, added to the ones, twos, fours and eights.
-fn add_sixteen(
-    f: &[u64],
-    x: Term,
-    i: usize,
-    ones: Term,
-    twos: Term,
-    fours: Term,
-    eights: Term,
-) -> Sixteens
-    requires { i + 16 ≤ length (numbers f.now) }
-    ensures { (v : ℕ) → digit (value ones) v + 2 * digit (value twos) v + 4 * digit (value fours) v + 8 * digit (value eights) v
-        + holding (value x) (drop i (numbers f.now)) v
-        ≡ digit (value result.ones) v + 2 * digit (value result.twos) v + 4 * digit (value result.fours) v + 8 * digit (value result.eights) v
-        + 16 * digit (value result.sixteens) v + holding (value x) (drop (i + 16) (numbers f.now)) v }
-{
-    let a = add_eight(f, x, i, ones, twos, fours);
-    let b = add_eight(f, x, i + 8, a.ones, a.twos, a.fours);
-    let s = add(eights, a.eights, b.eights);
-    let ones = b.ones;
-    let twos = b.twos;
-    let fours = b.fours;
-    let eights = s.low;
-    let sixteens = s.high;
-    Sixteens {
-        ones,
-        twos,
-        fours,
-        eights,
-        sixteens,
     }
 }
 
 // Adds, to every counter of `sum`, 2^at times that of `planes`.
-fn add_planes(sum: &mut [u64], at: usize, planes: &[u64])
-    requires { Room (numbers sum.old) (λ (v : ℕ). 2 ^ at * count_at (numbers planes.now) v)
-        × (at + length (numbers planes.now) ≤ length (numbers sum.old)) }
-    ensures { Added (numbers sum.old) (λ (v : ℕ). 2 ^ at * count_at (numbers planes.now) v)
-        (numbers sum.new) }
+fn add_planes<T: Term>(sum: &mut [u64], at: usize, planes: &[u64])
+    requires { Room (T.numbers sum.old) (λ (v : ℕ). 2 ^ at * count_at (T.numbers planes.now) v)
+        × (at + length (T.numbers planes.now) ≤ length (T.numbers sum.old)) }
+    ensures { Added (T.numbers sum.old) (λ (v : ℕ). 2 ^ at * count_at (T.numbers planes.now) v)
+        (T.numbers sum.new) }
 {
-    let n = narrow::count(planes);
-    let mut c = narrow::none();
-    let mut j = 0;
-    while j < n {
-        let k = at + j;
-        let s = add(narrow::at(sum, k), narrow::at(planes, j), c);
-        narrow::put(sum, k, s.low);
-        c = s.high;
-        j += 1;
+    let n = T::count(planes);
+    let mut c: T = T::none();
+    for j in 0..n {
+        c = add(sum, at + j, T::at(planes, j), c);
     }
-    carry(sum, at + j, c);
-}
-
-// Lays the low planes out, in four that are all 0.
-fn lay_four(low: &mut [u64], ones: Term, twos: Term, fours: Term, eights: Term)
-    requires { numbers low.old ≡ replicate 4 0 }
-    ensures { numbers low.new ≡ value ones ∷ value twos ∷ value fours ∷ value eights ∷ [] }
-{
-    narrow::put(low, 0, ones);
-    narrow::put(low, 1, twos);
-    narrow::put(low, 2, fours);
-    narrow::put(low, 3, eights);
+    carry(sum, at + n, c);
 }
 
 // Adds, to every variable's counter, how many terms of f hold x and that variable; x = 0 counts all terms. Sixteen at a time, with the
 // low planes at hand, and the rest one at a time.
-fn count(f: &[u64], x: Term, planes: &mut [u64])
-    requires { Room (numbers planes.old) (holding (value x) (numbers f.now)) × (4 ≤ length (numbers planes.old)) }
-    ensures { Added (numbers planes.old) (holding (value x) (numbers f.now)) (numbers planes.new) }
+fn count<T: Term>(f: &[u64], x: T, planes: &mut [u64])
+    requires { Room (T.numbers planes.old) (holding (T.value x) (T.numbers f.now)) × (4 ≤ length (T.numbers planes.old)) }
+    ensures { Added (T.numbers planes.old) (holding (T.value x) (T.numbers f.now)) (T.numbers planes.new) }
 {
-    let n = narrow::count(f);
-    let none = narrow::none();
-    let mut ones = none;
-    let mut twos = none;
-    let mut fours = none;
-    let mut eights = none;
-    let mut i = 0;
-    while i < n {
-        if 16 <= n - i {
-            let s = add_sixteen(f, x, i, ones, twos, fours, eights);
-            carry(planes, 4, s.sixteens);
-            ones = s.ones;
-            twos = s.twos;
-            fours = s.fours;
-            eights = s.eights;
-            i += 16;
-        } else {
-            let t = held(narrow::at(f, i), x);
-            carry(planes, 0, t);
-            i += 1;
-        }
+    let asked = Asked { f, x };
+    let n = T::count(f);
+    let blocks = n / 16;
+    let mut low = [0u64; 2 * 4];
+    let low = &mut low[..T::words(4)];
+    for b in 0..blocks {
+        let over = asked.sixteen(low, 16 * b);
+        carry(planes, 4, over);
     }
-    let mut low = [0u64; 4 * Term::WORDS];
-    lay_four(&mut low, ones, twos, fours, eights);
-    add_planes(planes, 0, &low);
+    for i in 16 * blocks..n {
+        let t = asked.held(i);
+        carry(planes, 0, t);
+    }
+    add_planes::<T>(planes, 0, low);
 }
 
 // Adds, to every counter of `sum`, that of `planes` as often as the counter of the variable b in `by` says.
-fn add_times(sum: &mut [u64], by: &[u64], b: Term, planes: &[u64])
-    requires { ((w : ℕ) × (value b ≡ 2 ^ w)
-        × Room (numbers sum.old) (λ (v : ℕ). count_at (numbers by.now) w * count_at (numbers planes.now) v))
-        × (length (numbers by.now) + length (numbers planes.now) ≤ length (numbers sum.old)) }
-    ensures { (w : ℕ) → value b ≡ 2 ^ w
-        → Added (numbers sum.old) (λ (v : ℕ). count_at (numbers by.now) w * count_at (numbers planes.now) v)
-        (numbers sum.new) }
+fn add_times<T: Term>(sum: &mut [u64], by: &[u64], b: T, planes: &[u64])
+    requires { ((w : ℕ) × (T.value b ≡ 2 ^ w)
+        × Room (T.numbers sum.old) (λ (v : ℕ). count_at (T.numbers by.now) w * count_at (T.numbers planes.now) v))
+        × (length (T.numbers by.now) + length (T.numbers planes.now) ≤ length (T.numbers sum.old)) }
+    ensures { (w : ℕ) → T.value b ≡ 2 ^ w
+        → Added (T.numbers sum.old) (λ (v : ℕ). count_at (T.numbers by.now) w * count_at (T.numbers planes.now) v)
+        (T.numbers sum.new) }
 {
-    let n = narrow::count(by);
-    let mut j = 0;
-    while j < n {
-        let at = j;
-        j += 1;
-        if narrow::same(narrow::and(narrow::at(by, at), b), b) {
-            add_planes(sum, at, planes);
+    for j in 0..T::count(by) {
+        if T::at(by, j).and(b).same(b) {
+            add_planes::<T>(sum, j, planes);
         }
     }
 }
 
 // The variables whose counters differ.
-fn differ(p: &[u64], q: &[u64]) -> Term
-    requires { length (numbers p.now) ≡ length (numbers q.now) }
-    ensures { (v : ℕ) → count_at (numbers p.now) v ≡ count_at (numbers q.now) v → bit (value result) v ≡ false }
+fn differ<T: Term>(p: &[u64], q: &[u64]) -> T
+    requires { length (T.numbers p.now) ≡ length (T.numbers q.now) }
+    ensures { (v : ℕ) → count_at (T.numbers p.now) v ≡ count_at (T.numbers q.now) v → bit (T.value result) v ≡ false }
 {
-    let n = narrow::count(p);
-    let mut d = narrow::none();
-    let mut j = 0;
-    while j < n {
-        d = narrow::or(d, narrow::xor(narrow::at(p, j), narrow::at(q, j)));
-        j += 1;
+    let mut d = T::none();
+    for j in 0..T::count(p) {
+        d = d.or(T::at(p, j).xor(T::at(q, j)));
     }
     d
 }
 
 // A number, its half, the half of that, and so on: their lowest bits are its digits.
-fn halve(n: u64, out: &mut [u64])
-    ensures { numbers out.new ≡ halves (length (numbers out.old)) n }
+fn halve<T: Term>(n: u64, out: &mut [u64])
+    ensures { T.numbers out.new ≡ halves (length (T.numbers out.old)) n }
 {
-    let k = narrow::count(out);
     let mut m = n;
-    let mut i = 0;
-    while i < k {
-        narrow::put(out, i, narrow::of(m));
-        m = m / 2;
-        i += 1;
+    for i in 0..T::count(out) {
+        T::put(out, i, T::of(m));
+        m /= 2;
     }
 }
 
 // The variables for which n times the counter in `both` differs from the counter of b in `both` times that in `alone`.
-fn uneven_by(n: u64, both: &[u64], b: Term, alone: &[u64]) -> Term
-    requires { (n ≤ 65535) × (length (numbers both.now) ≡ 16) × (length (numbers alone.now) ≡ 16) × ((w : ℕ) × (value b ≡ 2 ^ w)) }
-    ensures { (w v : ℕ) → value b ≡ 2 ^ w
-        → n * count_at (numbers both.now) v ≡ count_at (numbers both.now) w * count_at (numbers alone.now) v
-        → bit (value result) v ≡ false }
+fn uneven_by<T: Term>(n: u64, both: &[u64], b: T, alone: &[u64]) -> T
+    requires { (n ≤ 65535) × (length (T.numbers both.now) ≡ 16) × (length (T.numbers alone.now) ≡ 16) × ((w : ℕ) × (T.value b ≡ 2 ^ w)) }
+    ensures { (w v : ℕ) → T.value b ≡ 2 ^ w
+        → n * count_at (T.numbers both.now) v ≡ count_at (T.numbers both.now) w * count_at (T.numbers alone.now) v
+        → bit (T.value result) v ≡ false }
 {
-    let mut digits = [0u64; 16 * Term::WORDS];
-    halve(n, &mut digits);
-    let mut p = [0u64; 32 * Term::WORDS];
-    let mut q = [0u64; 32 * Term::WORDS];
-    add_times(&mut p, &digits, narrow::of(1), both);
-    add_times(&mut q, both, b, alone);
-    differ(&p, &q)
+    let mut digits = [0u64; 2 * 16];
+    let digits = &mut digits[..T::words(16)];
+    halve::<T>(n, digits);
+    let mut p = [0u64; 2 * 32];
+    let p = &mut p[..T::words(32)];
+    let mut q = [0u64; 2 * 32];
+    let q = &mut q[..T::words(32)];
+    add_times(p, digits, T::of(1), both);
+    add_times(q, both, b, alone);
+    differ(p, q)
 }
 
 // Counts, in planes that are all 0, the terms that hold each variable.
-pub fn tally(f: &[u64], planes: &mut [u64])
-    requires { (length (numbers f.now) ≤ 65535) × (numbers planes.old ≡ replicate 16 0) }
-    ensures { Tallied (numbers f.now) (numbers planes.new) }
+pub fn tally<T: Term>(f: &[u64], planes: &mut [u64])
+    requires { (length (T.numbers f.now) ≤ 65535) × (T.numbers planes.old ≡ replicate 16 0) }
+    ensures { Tallied (T.numbers f.now) (T.numbers planes.new) }
 {
-    count(f, narrow::none(), planes);
+    count(f, T::none(), planes);
 }
 
 // Of the variables `among`, those whose counts say that they are not apart from x; `alone` are the counts of all terms.
-pub fn uneven(f: &[u64], alone: &[u64], x: Term, among: Term) -> Term
-    requires { Tallied (numbers f.now) (numbers alone.now) }
-    ensures { Ties (numbers f.now) (value x) (value among) (value result) }
+pub fn uneven<T: Term>(f: &[u64], alone: &[u64], x: T, among: T) -> T
+    requires { Tallied (T.numbers f.now) (T.numbers alone.now) }
+    ensures { Ties (T.numbers f.now) (T.value x) (T.value among) (T.value result) }
 {
-    if narrow::empty(x) {
-        return narrow::none();
+    if x.empty() {
+        return T::none();
     }
-    let mut both = [0u64; 16 * Term::WORDS];
-    count(f, x, &mut both);
-    let n = narrow::count(f) as u64;
-    let ties = uneven_by(n, &both, narrow::lowest(x), alone);
-    narrow::and(ties, among)
+    let mut both = [0u64; 2 * 16];
+    let both = &mut both[..T::words(16)];
+    count(f, x, both);
+    let n = T::count(f) as u64;
+    let ties = uneven_by(n, both, x.lowest(), alone);
+    ties.and(among)
 }

@@ -6,95 +6,96 @@
 #![tactic(auto)]
 
 ghost use Rattle.std.specs.Prelude.{◌≡◌, suc, ◌≤◌, ◌<◌, length};
-ghost use Rattle.narrow.specs.Numbers.{numbers, lines};
 ghost use Rattle.ring.specs.Same.{SameProducts};
 ghost use Rattle.ring.specs.Run.{Decides};
 ghost use Rattle.ring.specs.Ends.{Four};
 ghost use Rattle.runs.specs.Read.{shape};
 ghost use Rattle.cross.specs.Asked.{Runs, Halves, Joined, Ratios, OneRatio, Whole, Both, Eight, Agree, Stands};
 
+use term::Term;
+
 // The four-list test: whether AD = BC, on the variables below k.
 #[cycle(tests)]
-pub fn same(a: &[u64], d: &[u64], b: &[u64], c: &[u64], k: u64) -> bool
-    requires { (k ≤ lines) × Runs k (numbers a.now) (numbers d.now) (numbers b.now) (numbers c.now) }
-    ensures { Decides result (SameProducts k (numbers a.now) (numbers d.now) (numbers b.now) (numbers c.now)) }
+pub fn same<T: Term>(a: &[u64], d: &[u64], b: &[u64], c: &[u64], k: u64) -> bool
+    requires { (k ≤ T.LINES) × Runs k (T.numbers a.now) (T.numbers d.now) (T.numbers b.now) (T.numbers c.now) }
+    ensures { Decides result (SameProducts k (T.numbers a.now) (T.numbers d.now) (T.numbers b.now) (T.numbers c.now)) }
 {
-    if runs::vanish(a, d) {
-        return runs::vanish(b, c);
+    if runs::vanish::<T>(a, d) {
+        return runs::vanish::<T>(b, c);
     }
-    if runs::vanish(b, c) {
+    if runs::vanish::<T>(b, c) {
         return false;
     }
-    settle(a, d, b, c, k)
+    settle::<T>(a, d, b, c, k)
 }
 
 // The same, where no list is empty: with one term on each side the others match in order.
 #[cycle(tests)]
-fn settle(a: &[u64], d: &[u64], b: &[u64], c: &[u64], k: u64) -> bool
-    requires { (k ≤ lines) × Four k (numbers a.now) (numbers d.now) (numbers b.now) (numbers c.now) }
-    ensures { Decides result (SameProducts k (numbers a.now) (numbers d.now) (numbers b.now) (numbers c.now)) }
+fn settle<T: Term>(a: &[u64], d: &[u64], b: &[u64], c: &[u64], k: u64) -> bool
+    requires { (k ≤ T.LINES) × Four k (T.numbers a.now) (T.numbers d.now) (T.numbers b.now) (T.numbers c.now) }
+    ensures { Decides result (SameProducts k (T.numbers a.now) (T.numbers d.now) (T.numbers b.now) (T.numbers c.now)) }
 {
-    if narrow::count(a) == 1 {
-        if narrow::count(b) == 1 {
-            return runs::matched(narrow::at(a, 0), narrow::at(b, 0), d, c, k);
+    if T::count(a) == 1 {
+        if T::count(b) == 1 {
+            return runs::matched(T::at(a, 0), T::at(b, 0), d, c, k);
         }
-        if narrow::count(c) == 1 {
-            return runs::matched(narrow::at(a, 0), narrow::at(c, 0), d, b, k);
-        }
-    }
-    if narrow::count(d) == 1 {
-        if narrow::count(b) == 1 {
-            return runs::matched(narrow::at(d, 0), narrow::at(b, 0), a, c, k);
-        }
-        if narrow::count(c) == 1 {
-            return runs::matched(narrow::at(d, 0), narrow::at(c, 0), a, b, k);
+        if T::count(c) == 1 {
+            return runs::matched(T::at(a, 0), T::at(c, 0), d, b, k);
         }
     }
-    skip(a, d, b, c, k)
+    if T::count(d) == 1 {
+        if T::count(b) == 1 {
+            return runs::matched(T::at(d, 0), T::at(b, 0), a, c, k);
+        }
+        if T::count(c) == 1 {
+            return runs::matched(T::at(d, 0), T::at(c, 0), a, b, k);
+        }
+    }
+    skip::<T>(a, d, b, c, k)
 }
 
 // The same without the constant variables on top, which stand equally often on either side or refuse.
 #[cycle(tests)]
-fn skip(a: &[u64], d: &[u64], b: &[u64], c: &[u64], k: u64) -> bool
-    requires { (k ≤ lines) × Four k (numbers a.now) (numbers d.now) (numbers b.now) (numbers c.now) }
-    ensures { Decides result (SameProducts k (numbers a.now) (numbers d.now) (numbers b.now) (numbers c.now)) }
+fn skip<T: Term>(a: &[u64], d: &[u64], b: &[u64], c: &[u64], k: u64) -> bool
+    requires { (k ≤ T.LINES) × Four k (T.numbers a.now) (T.numbers d.now) (T.numbers b.now) (T.numbers c.now) }
+    ensures { Decides result (SameProducts k (T.numbers a.now) (T.numbers d.now) (T.numbers b.now) (T.numbers c.now)) }
 {
-    let w = runs::left(runs::vary(a, d, b, c, k), k);
-    if runs::within(runs::clash(a, d, b, c, k), w, k) {
+    let w = runs::left(runs::vary::<T>(a, d, b, c, k), k);
+    if runs::within(runs::clash::<T>(a, d, b, c, k), w, k) {
         return false;
     }
-    unlike(a, d, b, c, w)
+    unlike::<T>(a, d, b, c, w)
 }
 
 // The same: a list that stands on both sides leaves a comparison, and else the lists are cut.
 #[cycle(tests)]
-fn unlike(a: &[u64], d: &[u64], b: &[u64], c: &[u64], k: u64) -> bool
-    requires { (k ≤ lines) × Four k (numbers a.now) (numbers d.now) (numbers b.now) (numbers c.now) }
-    ensures { Decides result (SameProducts k (numbers a.now) (numbers d.now) (numbers b.now) (numbers c.now)) }
+fn unlike<T: Term>(a: &[u64], d: &[u64], b: &[u64], c: &[u64], k: u64) -> bool
+    requires { (k ≤ T.LINES) × Four k (T.numbers a.now) (T.numbers d.now) (T.numbers b.now) (T.numbers c.now) }
+    ensures { Decides result (SameProducts k (T.numbers a.now) (T.numbers d.now) (T.numbers b.now) (T.numbers c.now)) }
 {
     if k == 0 {
         return true;
     }
-    if runs::alike(a, b, k) {
-        return runs::alike(d, c, k);
+    if runs::alike::<T>(a, b, k) {
+        return runs::alike::<T>(d, c, k);
     }
-    if runs::alike(a, c, k) {
-        return runs::alike(d, b, k);
+    if runs::alike::<T>(a, c, k) {
+        return runs::alike::<T>(d, b, k);
     }
-    cross(a, d, b, c, k - 1)
+    cross::<T>(a, d, b, c, k - 1)
 }
 
 // The cross test: the lists are cut at their highest variable k, and the halves are asked about.
 #[cycle(tests)]
-fn cross(a: &[u64], d: &[u64], b: &[u64], c: &[u64], k: u64) -> bool
-    requires { (k < lines) × Four (suc k) (numbers a.now) (numbers d.now) (numbers b.now) (numbers c.now) }
-    ensures { Decides result (SameProducts (suc k) (numbers a.now) (numbers d.now) (numbers b.now) (numbers c.now)) }
+fn cross<T: Term>(a: &[u64], d: &[u64], b: &[u64], c: &[u64], k: u64) -> bool
+    requires { (k < T.LINES) × Four (suc k) (T.numbers a.now) (T.numbers d.now) (T.numbers b.now) (T.numbers c.now) }
+    ensures { Decides result (SameProducts (suc k) (T.numbers a.now) (T.numbers d.now) (T.numbers b.now) (T.numbers c.now)) }
 {
-    let i = narrow::words(runs::cut(a, k));
-    let j = narrow::words(runs::cut(d, k));
-    let m = narrow::words(runs::cut(b, k));
-    let n = narrow::words(runs::cut(c, k));
-    halves(
+    let i = T::words(runs::cut::<T>(a, k));
+    let j = T::words(runs::cut::<T>(d, k));
+    let m = T::words(runs::cut::<T>(b, k));
+    let n = T::words(runs::cut::<T>(c, k));
+    halves::<T>(
         &a[0..i],
         &a[i..],
         &d[0..j],
@@ -109,7 +110,7 @@ fn cross(a: &[u64], d: &[u64], b: &[u64], c: &[u64], k: u64) -> bool
 
 // The two sides must have the same shapes: operands of one shape are set against each other.
 #[cycle(tests)]
-fn halves(
+fn halves<T: Term>(
     a0: &[u64],
     a1: &[u64],
     d0: &[u64],
@@ -120,27 +121,27 @@ fn halves(
     c1: &[u64],
     k: u64,
 ) -> bool
-    requires { (k < lines) × Halves k (numbers a0.now) (numbers a1.now) (numbers d0.now) (numbers d1.now) (numbers b0.now) (numbers b1.now) (numbers c0.now) (numbers c1.now) }
-    ensures { Decides result (Joined k (numbers a0.now) (numbers a1.now) (numbers d0.now) (numbers d1.now) (numbers b0.now) (numbers b1.now) (numbers c0.now) (numbers c1.now)) }
+    requires { (k < T.LINES) × Halves k (T.numbers a0.now) (T.numbers a1.now) (T.numbers d0.now) (T.numbers d1.now) (T.numbers b0.now) (T.numbers b1.now) (T.numbers c0.now) (T.numbers c1.now) }
+    ensures { Decides result (Joined k (T.numbers a0.now) (T.numbers a1.now) (T.numbers d0.now) (T.numbers d1.now) (T.numbers b0.now) (T.numbers b1.now) (T.numbers c0.now) (T.numbers c1.now)) }
 {
-    let p = runs::pairing(
-        runs::shape_of(a0, a1),
-        runs::shape_of(d0, d1),
-        runs::shape_of(b0, b1),
-        runs::shape_of(c0, c1),
+    let p = runs::pairing::<T>(
+        runs::shape_of::<T>(a0, a1),
+        runs::shape_of::<T>(d0, d1),
+        runs::shape_of::<T>(b0, b1),
+        runs::shape_of::<T>(c0, c1),
     );
     if p == 0 {
-        return opposed(a0, a1, d0, d1, b0, b1, c0, c1, k);
+        return opposed::<T>(a0, a1, d0, d1, b0, b1, c0, c1, k);
     }
     if p == 1 {
-        return opposed(a0, a1, d0, d1, c0, c1, b0, b1, k);
+        return opposed::<T>(a0, a1, d0, d1, c0, c1, b0, b1, k);
     }
     false
 }
 
 // A and B have one shape, D and C another or the same: three ratios, or four where all halves are there.
 #[cycle(tests)]
-fn opposed(
+fn opposed<T: Term>(
     a0: &[u64],
     a1: &[u64],
     d0: &[u64],
@@ -151,64 +152,80 @@ fn opposed(
     c1: &[u64],
     k: u64,
 ) -> bool
-    requires halved { (k < lines) × Halves k (numbers a0.now) (numbers a1.now) (numbers d0.now) (numbers d1.now) (numbers b0.now) (numbers b1.now) (numbers c0.now) (numbers c1.now) }
-    requires same_shapes { (shape (numbers a0.now) (numbers a1.now) ≡ shape (numbers b0.now) (numbers b1.now)) × (shape (numbers d0.now) (numbers d1.now) ≡ shape (numbers c0.now) (numbers c1.now)) }
-    ensures { Decides result (Joined k (numbers a0.now) (numbers a1.now) (numbers d0.now) (numbers d1.now) (numbers b0.now) (numbers b1.now) (numbers c0.now) (numbers c1.now)) }
+    requires halved { (k < T.LINES) × Halves k (T.numbers a0.now) (T.numbers a1.now) (T.numbers d0.now) (T.numbers d1.now) (T.numbers b0.now) (T.numbers b1.now) (T.numbers c0.now) (T.numbers c1.now) }
+    requires same_shapes { (shape (T.numbers a0.now) (T.numbers a1.now) ≡ shape (T.numbers b0.now) (T.numbers b1.now)) × (shape (T.numbers d0.now) (T.numbers d1.now) ≡ shape (T.numbers c0.now) (T.numbers c1.now)) }
+    ensures { Decides result (Joined k (T.numbers a0.now) (T.numbers a1.now) (T.numbers d0.now) (T.numbers d1.now) (T.numbers b0.now) (T.numbers b1.now) (T.numbers c0.now) (T.numbers c1.now)) }
 {
-    if narrow::count(a1) == 0 {
-        return ratios(a0, b0, c1, d1, c0, d0, k);
+    if T::count(a1) == 0 {
+        return ratios::<T>(a0, b0, c1, d1, c0, d0, k);
     }
-    if narrow::count(a0) == 0 {
-        return ratios(a1, b1, c1, d1, c0, d0, k);
+    if T::count(a0) == 0 {
+        return ratios::<T>(a1, b1, c1, d1, c0, d0, k);
     }
-    if narrow::count(d1) == 0 {
-        return ratios(d0, c0, b1, a1, b0, a0, k);
+    if T::count(d1) == 0 {
+        return ratios::<T>(d0, c0, b1, a1, b0, a0, k);
     }
-    if narrow::count(d0) == 0 {
-        return ratios(d1, c1, b1, a1, b0, a0, k);
+    if T::count(d0) == 0 {
+        return ratios::<T>(d1, c1, b1, a1, b0, a0, k);
     }
-    whole(a0, a1, d0, d1, b0, b1, c0, c1, k)
+    whole::<T>(a0, a1, d0, d1, b0, b1, c0, c1, k)
 }
 
 // Whether three ratios are one: the smallest is asked against the other two. Of equally small ones the first comes last.
 #[cycle(tests)]
-fn ratios(p1: &[u64], q1: &[u64], p2: &[u64], q2: &[u64], p3: &[u64], q3: &[u64], k: u64) -> bool
-    requires { (k < lines) × Ratios k (numbers p1.now) (numbers q1.now) (numbers p2.now) (numbers q2.now) (numbers p3.now) (numbers q3.now) }
-    ensures { Decides result (OneRatio k (numbers p1.now) (numbers q1.now) (numbers p2.now) (numbers q2.now) (numbers p3.now) (numbers q3.now)) }
+fn ratios<T: Term>(
+    p1: &[u64],
+    q1: &[u64],
+    p2: &[u64],
+    q2: &[u64],
+    p3: &[u64],
+    q3: &[u64],
+    k: u64,
+) -> bool
+    requires { (k < T.LINES) × Ratios k (T.numbers p1.now) (T.numbers q1.now) (T.numbers p2.now) (T.numbers q2.now) (T.numbers p3.now) (T.numbers q3.now) }
+    ensures { Decides result (OneRatio k (T.numbers p1.now) (T.numbers q1.now) (T.numbers p2.now) (T.numbers q2.now) (T.numbers p3.now) (T.numbers q3.now)) }
 {
-    let s1 = runs::size(p1, q1);
-    let s2 = runs::size(p2, q2);
-    let s3 = runs::size(p3, q3);
-    if 0 < narrow::count(q2) {
+    let s1 = runs::size::<T>(p1, q1);
+    let s2 = runs::size::<T>(p2, q2);
+    let s3 = runs::size::<T>(p3, q3);
+    if 0 < T::count(q2) {
         if s2 <= s1 {
             if s2 <= s3 {
-                return against(p2, q2, p1, q1, p3, q3, k);
+                return against::<T>(p2, q2, p1, q1, p3, q3, k);
             }
         }
     }
-    if 0 < narrow::count(q3) {
+    if 0 < T::count(q3) {
         if s3 <= s1 {
-            return against(p3, q3, p1, q1, p2, q2, k);
+            return against::<T>(p3, q3, p1, q1, p2, q2, k);
         }
     }
-    against(p1, q1, p2, q2, p3, q3, k)
+    against::<T>(p1, q1, p2, q2, p3, q3, k)
 }
 
 // A ratio against two others, the smaller of them first.
 #[cycle(tests)]
-fn against(p1: &[u64], q1: &[u64], p2: &[u64], q2: &[u64], p3: &[u64], q3: &[u64], k: u64) -> bool
-    requires { (k < lines) × Ratios k (numbers p1.now) (numbers q1.now) (numbers p2.now) (numbers q2.now) (numbers p3.now) (numbers q3.now) }
-    ensures { Decides result (OneRatio k (numbers p1.now) (numbers q1.now) (numbers p2.now) (numbers q2.now) (numbers p3.now) (numbers q3.now)) }
+fn against<T: Term>(
+    p1: &[u64],
+    q1: &[u64],
+    p2: &[u64],
+    q2: &[u64],
+    p3: &[u64],
+    q3: &[u64],
+    k: u64,
+) -> bool
+    requires { (k < T.LINES) × Ratios k (T.numbers p1.now) (T.numbers q1.now) (T.numbers p2.now) (T.numbers q2.now) (T.numbers p3.now) (T.numbers q3.now) }
+    ensures { Decides result (OneRatio k (T.numbers p1.now) (T.numbers q1.now) (T.numbers p2.now) (T.numbers q2.now) (T.numbers p3.now) (T.numbers q3.now)) }
 {
-    if runs::size(p3, q3) < runs::size(p2, q2) {
-        return both(p1, q3, q1, p3, p1, q2, q1, p2, k);
+    if runs::size::<T>(p3, q3) < runs::size::<T>(p2, q2) {
+        return both::<T>(p1, q3, q1, p3, p1, q2, q1, p2, k);
     }
-    both(p1, q2, q1, p2, p1, q3, q1, p3, k)
+    both::<T>(p1, q2, q1, p2, p1, q3, q1, p3, k)
 }
 
 // Two questions, the first one first.
 #[cycle(tests)]
-fn both(
+fn both<T: Term>(
     a1: &[u64],
     d1: &[u64],
     b1: &[u64],
@@ -219,19 +236,19 @@ fn both(
     c0: &[u64],
     k: u64,
 ) -> bool
-    requires first_runs { (k < lines) × Runs k (numbers a1.now) (numbers d1.now) (numbers b1.now) (numbers c1.now) }
-    requires second_runs { Runs k (numbers a0.now) (numbers d0.now) (numbers b0.now) (numbers c0.now) }
-    ensures { Decides result (Both k (numbers a0.now) (numbers a1.now) (numbers d0.now) (numbers d1.now) (numbers b0.now) (numbers b1.now) (numbers c0.now) (numbers c1.now)) }
+    requires first_runs { (k < T.LINES) × Runs k (T.numbers a1.now) (T.numbers d1.now) (T.numbers b1.now) (T.numbers c1.now) }
+    requires second_runs { Runs k (T.numbers a0.now) (T.numbers d0.now) (T.numbers b0.now) (T.numbers c0.now) }
+    ensures { Decides result (Both k (T.numbers a0.now) (T.numbers a1.now) (T.numbers d0.now) (T.numbers d1.now) (T.numbers b0.now) (T.numbers b1.now) (T.numbers c0.now) (T.numbers c1.now)) }
 {
-    if same(a1, d1, b1, c1, k) {
-        return same(a0, d0, b0, c0, k);
+    if same::<T>(a1, d1, b1, c1, k) {
+        return same::<T>(a0, d0, b0, c0, k);
     }
     false
 }
 
 // All eight halves are there: the smaller of the two outer equations is to be asked first.
 #[cycle(tests)]
-fn whole(
+fn whole<T: Term>(
     a0: &[u64],
     a1: &[u64],
     d0: &[u64],
@@ -242,21 +259,21 @@ fn whole(
     c1: &[u64],
     k: u64,
 ) -> bool
-    requires { (k < lines) × Whole k (numbers a0.now) (numbers a1.now) (numbers d0.now) (numbers d1.now) (numbers b0.now) (numbers b1.now) (numbers c0.now) (numbers c1.now) }
-    ensures { Decides result (Joined k (numbers a0.now) (numbers a1.now) (numbers d0.now) (numbers d1.now) (numbers b0.now) (numbers b1.now) (numbers c0.now) (numbers c1.now)) }
+    requires { (k < T.LINES) × Whole k (T.numbers a0.now) (T.numbers a1.now) (T.numbers d0.now) (T.numbers d1.now) (T.numbers b0.now) (T.numbers b1.now) (T.numbers c0.now) (T.numbers c1.now) }
+    ensures { Decides result (Joined k (T.numbers a0.now) (T.numbers a1.now) (T.numbers d0.now) (T.numbers d1.now) (T.numbers b0.now) (T.numbers b1.now) (T.numbers c0.now) (T.numbers c1.now)) }
 {
-    let low = runs::size(a0, d0) + runs::size(b0, c0);
-    let high = runs::size(a1, d1) + runs::size(b1, c1);
+    let low = runs::size::<T>(a0, d0) + runs::size::<T>(b0, c0);
+    let high = runs::size::<T>(a1, d1) + runs::size::<T>(b1, c1);
     if low < high {
-        return agree(a1, a0, d1, d0, b1, b0, c1, c0, k);
+        return agree::<T>(a1, a0, d1, d0, b1, b0, c1, c0, k);
     }
-    agree(a0, a1, d0, d1, b0, b1, c0, c1, k)
+    agree::<T>(a0, a1, d0, d1, b0, b1, c0, c1, k)
 }
 
 // Whether the four ratios A / B and C / D of the halves are one, or the four ratios A / C and B / D are. The first question belongs to
 // both; where the ratios without the variable differ neither can be.
 #[cycle(tests)]
-fn agree(
+fn agree<T: Term>(
     a0: &[u64],
     a1: &[u64],
     d0: &[u64],
@@ -267,18 +284,18 @@ fn agree(
     c1: &[u64],
     k: u64,
 ) -> bool
-    requires { (k < lines) × Eight k (numbers a0.now) (numbers a1.now) (numbers d0.now) (numbers d1.now) (numbers b0.now) (numbers b1.now) (numbers c0.now) (numbers c1.now) }
-    ensures { Decides result (Agree k (numbers a0.now) (numbers a1.now) (numbers d0.now) (numbers d1.now) (numbers b0.now) (numbers b1.now) (numbers c0.now) (numbers c1.now)) }
+    requires { (k < T.LINES) × Eight k (T.numbers a0.now) (T.numbers a1.now) (T.numbers d0.now) (T.numbers d1.now) (T.numbers b0.now) (T.numbers b1.now) (T.numbers c0.now) (T.numbers c1.now) }
+    ensures { Decides result (Agree k (T.numbers a0.now) (T.numbers a1.now) (T.numbers d0.now) (T.numbers d1.now) (T.numbers b0.now) (T.numbers b1.now) (T.numbers c0.now) (T.numbers c1.now)) }
 {
-    if same(a1, d1, b1, c1, k) {
-        let one = stand(a0, a1, d0, d1, b0, b1, c0, c1, k);
+    if same::<T>(a1, d1, b1, c1, k) {
+        let one = stand::<T>(a0, a1, d0, d1, b0, b1, c0, c1, k);
         if one == 2 {
             return true;
         }
         if one == 1 {
             return false;
         }
-        let other = stand(a0, a1, d0, d1, c0, c1, b0, b1, k);
+        let other = stand::<T>(a0, a1, d0, d1, c0, c1, b0, b1, k);
         if other == 2 {
             return true;
         }
@@ -288,7 +305,7 @@ fn agree(
 
 // How A1 / B1 stands to A0 / B0 and C0 / D0: the smaller of it and C1 / D1, which are one, is held against these.
 #[cycle(tests)]
-fn stand(
+fn stand<T: Term>(
     a0: &[u64],
     a1: &[u64],
     d0: &[u64],
@@ -299,25 +316,33 @@ fn stand(
     c1: &[u64],
     k: u64,
 ) -> u64
-    requires eight_runs { (k < lines) × Eight k (numbers a0.now) (numbers a1.now) (numbers d0.now) (numbers d1.now) (numbers b0.now) (numbers b1.now) (numbers c0.now) (numbers c1.now) }
-    requires same_products { SameProducts k (numbers a1.now) (numbers d1.now) (numbers b1.now) (numbers c1.now) }
-    ensures { Stands result k (numbers a1.now) (numbers b1.now) (numbers a0.now) (numbers b0.now) (numbers c0.now) (numbers d0.now) }
+    requires eight_runs { (k < T.LINES) × Eight k (T.numbers a0.now) (T.numbers a1.now) (T.numbers d0.now) (T.numbers d1.now) (T.numbers b0.now) (T.numbers b1.now) (T.numbers c0.now) (T.numbers c1.now) }
+    requires same_products { SameProducts k (T.numbers a1.now) (T.numbers d1.now) (T.numbers b1.now) (T.numbers c1.now) }
+    ensures { Stands result k (T.numbers a1.now) (T.numbers b1.now) (T.numbers a0.now) (T.numbers b0.now) (T.numbers c0.now) (T.numbers d0.now) }
 {
-    if runs::size(c1, d1) < runs::size(a1, b1) {
-        return compared(c1, d1, a0, b0, c0, d0, k);
+    if runs::size::<T>(c1, d1) < runs::size::<T>(a1, b1) {
+        return compared::<T>(c1, d1, a0, b0, c0, d0, k);
     }
-    compared(a1, b1, a0, b0, c0, d0, k)
+    compared::<T>(a1, b1, a0, b0, c0, d0, k)
 }
 
 // How a ratio stands to two others: 2 if the three are one, 1 if it is the first of the two alone, 0 if it is not even that.
 #[cycle(tests)]
-fn compared(p1: &[u64], q1: &[u64], p2: &[u64], q2: &[u64], p3: &[u64], q3: &[u64], k: u64) -> u64
-    requires three_ratios { (k < lines) × Ratios k (numbers p1.now) (numbers q1.now) (numbers p2.now) (numbers q2.now) (numbers p3.now) (numbers q3.now) }
-    requires q2_nonempty { 0 < length (numbers q2.now) }
-    ensures { Stands result k (numbers p1.now) (numbers q1.now) (numbers p2.now) (numbers q2.now) (numbers p3.now) (numbers q3.now) }
+fn compared<T: Term>(
+    p1: &[u64],
+    q1: &[u64],
+    p2: &[u64],
+    q2: &[u64],
+    p3: &[u64],
+    q3: &[u64],
+    k: u64,
+) -> u64
+    requires three_ratios { (k < T.LINES) × Ratios k (T.numbers p1.now) (T.numbers q1.now) (T.numbers p2.now) (T.numbers q2.now) (T.numbers p3.now) (T.numbers q3.now) }
+    requires q2_nonempty { 0 < length (T.numbers q2.now) }
+    ensures { Stands result k (T.numbers p1.now) (T.numbers q1.now) (T.numbers p2.now) (T.numbers q2.now) (T.numbers p3.now) (T.numbers q3.now) }
 {
-    if same(p1, q2, q1, p2, k) {
-        if same(p1, q3, q1, p3, k) {
+    if same::<T>(p1, q2, q1, p2, k) {
+        if same::<T>(p1, q3, q1, p3, k) {
             return 2;
         }
         return 1;

@@ -1,4 +1,3 @@
-pub mod Lent
 pub mod Passing
 pub mod Answers
 pub mod Boards

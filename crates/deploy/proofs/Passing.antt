@@ -1,16 +1,13 @@
--- The checks of deploy one behind the other, and what they tell where they pass. Assumes nothing.
-use Prim.Native.Nat.{ℕ, ◌*◌, ◌≤◌, ◌<◌}
+-- What the checks of deploy tell where they pass. Assumes nothing.
+use Prim.Native.Nat.{ℕ, ◌*◌, ◌≤◌}
 use mathlib.Core.Path.{◌≡◌}
-use mathlib.Core.Bool.{Bool, true, false}
 use mathlib.Core.List.{List, [], ◌∷◌}
 use borrow.Author.Tests.{ltb-false}
 use lib.Dec.{ltb}
 use lib.ListN.{length}
-use Rattle.answer.specs.declared.Answer.{Answer}
-use Rattle.answer.specs.Table.{accepted, refused}
 use Rattle.answer.specs.Ends.{Check, check}
-use Rattle.answer.specs.Checked.{Passed, Checked}
-use Rattle.answer.proofs.Checking.{checking, refused_before, passed_before, passed_first, passed_then}
+use Rattle.answer.specs.Checked.{Passed}
+use Rattle.answer.proofs.Checking.{passed_first, passed_then}
 use Rattle.lists.specs.Lists.{added, lent_checks}
 use Rattle.lists.proofs.Counting.{few_lists, words_all}
 use Rattle.deploy.specs.Deploy.{deploy_checks}
@@ -18,19 +15,6 @@ use Rattle.deploy.specs.Deploy.{deploy_checks}
 -- the room for the answers
 abbrev room_check : List ℕ → ℕ → List Check
 room_check ls answers = check (ltb answers (4 * length ls)) 6 0 0 ∷ []
-
-module _ (max_lists words : ℕ) (ls : List ℕ) (answers : ℕ) (lent : Answer) (refuses : Bool) (checked : Checked (lent_checks max_lists words ls) lent)
-    (said : refuses ≡ ltb 0 lent.code) where
-  pub lists_refused : refuses ≡ true → Checked (deploy_checks max_lists words ls answers) lent
-  lists_refused = refused_before (lent_checks max_lists words ls) (room_check ls answers) lent refuses checked said
-
-  pub room_missing : refuses ≡ false → answers < 4 * length ls → Checked (deploy_checks max_lists words ls answers) (refused 6 0 0)
-  room_missing e h = passed_before (lent_checks max_lists words ls) (room_check ls answers) lent refuses checked said (refused 6 0 0) e (search checking)
-
-  pub room_there : refuses ≡ false → 4 * length ls ≤ answers → Checked (deploy_checks max_lists words ls answers) (accepted 0)
-  room_there e h = passed_before (lent_checks max_lists words ls) (room_check ls answers) lent refuses checked said (accepted 0) e (search checking)
-
--- ---- what passed checks tell
 
 module _ (max_lists words : ℕ) (ls : List ℕ) (answers : ℕ) (passed : Passed (deploy_checks max_lists words ls answers)) where
   lent_passed : Passed (lent_checks max_lists words ls)

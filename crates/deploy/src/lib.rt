@@ -2,14 +2,20 @@
 // the answers.
 #![tactic(auto)]
 
-ghost use Rattle.std.specs.Prelude.{◌+◌, ◌≤◌, ◌<◌, ◌^◌, ◌≡◌, ◌∷◌, [], ◌++◌, length, drop};
-ghost use Rattle.answer.specs.Table.{numbers_of};
+ghost use Rattle.std.specs.Prelude.{◌+◌, ◌≤◌, ◌<◌, ◌^◌, ◌≡◌, ◌∷◌, [], ◌++◌, length, drop, sum, slice_range};
+ghost use Rattle.answer.specs.Table.{numbers_of, verdict_of};
 ghost use Rattle.answer.specs.Checked.{Passed, Checked};
-ghost use Rattle.lists.specs.Lists.{cut, added};
+ghost use Rattle.lists.specs.Lists.{cut};
+ghost use Rattle.narrow.specs.Numbers.{numbers};
+ghost use Rattle.parts.specs.Split.{SplitEnds};
+ghost use Rattle.parts.specs.Lent.{lent, SameLoans};
 ghost use Rattle.deploy.specs.Deploy.{answer_words, deploy_checks, Deployed, DeployEnds};
 ghost use Rattle.deploy.specs.Turn.{SplitBehind, Turned};
 
-use answer::{Answer, Outcome};
+use answer::{Answer, Outcome, Refusal};
+use lists::Lists;
+use narrow::Narrow;
+use parts::Outputs;
 use terms::TermList;
 
 // The most boards that a ship carries.
@@ -25,135 +31,104 @@ pub struct Filled {
     pub parts: usize,
 }
 
-// The parts of each list of a deployment, or its refusal.
+// The parts of each list of a deployment, or its refusal. The words and the lengths stay two parameters here, since every caller has them as
+// two slices from C.
+#[tactic(auto, using(answer::proofs::Checking::calling))]
 pub fn deploy(
     words: &[u64],
     lengths: &[u64],
     answers: &mut [u64],
-    part_terms: &mut [u64],
-    part_lengths: &mut [u64],
-    work: &mut [u64],
+    outputs: &mut Outputs<'_>,
 ) -> Outcome
-    ensures { DeployEnds MAX_BOARDS TermList.MAX_TERMS TermList.MAX_VARS words.now lengths.now
-        (record { answers = answers.old; outputs = record { terms = part_terms.old; lengths = part_lengths.old; work = work.old } })
+    ensures ends { DeployEnds MAX_BOARDS TermList.MAX_TERMS TermList.MAX_VARS words.now lengths.now
+        (record { answers = answers.old; outputs = lent numbers outputs.old })
         (numbers_of result)
-        (record { answers = answers.new; outputs = record { terms = part_terms.new; lengths = part_lengths.new; work = work.new } }) }
+        (record { answers = answers.new; outputs = lent numbers outputs.new }) }
+    ensures loans { SameLoans outputs.old outputs.new }
 {
-    let verdict = checks(words.len(), lengths, answers.len());
-    if answer::refuses(verdict) {
-        return verdict;
-    }
-    let count = in_turn(words, lengths, answers, part_terms, part_lengths, work);
-    Outcome::Done {
-        count: count as u64,
-    }
+    checks(words.len(), lengths, answers.len())?;
+    in_turn(Lists { words, lengths }, answers, outputs);
+    Ok(lengths.len() as u64)
 }
 
 // What is refused of the whole deployment, in the order of the rules; `room` is the words that are lent for answers.
-fn checks(words: usize, lengths: &[u64], room: usize) -> Outcome
-    ensures { Checked (deploy_checks MAX_BOARDS words lengths.now room) (numbers_of result) }
+#[tactic(auto, unfolding(answer::specs::Checked::Checked), using(answer::proofs::Checking::came))]
+fn checks(words: usize, lengths: &[u64], room: usize) -> Result<(), Refusal>
+    ensures { Checked (deploy_checks MAX_BOARDS words lengths.now room) (verdict_of result) }
 {
-    let lent = lists::check_lent(MAX_BOARDS, words, lengths);
-    if answer::refuses(lent) {
-        return lent;
-    }
+    lists::check_lent(MAX_BOARDS, words, lengths)?;
     if room < ANSWER * lengths.len() {
-        return Outcome::Room { operand: 0 };
+        return Err(Refusal::Room { operand: 0 });
     }
-    Outcome::Done { count: 0 }
+    Ok(())
 }
 
-// Splits the lists of a deployment that passed the checks one after another, writes their answers, and counts them.
-fn in_turn(
-    words: &[u64],
-    lengths: &[u64],
-    answers: &mut [u64],
-    part_terms: &mut [u64],
-    part_lengths: &mut [u64],
-    work: &mut [u64],
-) -> usize
-    requires { Passed (deploy_checks MAX_BOARDS (length words.now) lengths.now (length answers.old)) }
-    ensures { Deployed TermList.MAX_TERMS TermList.MAX_VARS (cut lengths.now words.now)
-        (record { answers = answers.old; outputs = record { terms = part_terms.old; lengths = part_lengths.old; work = work.old } })
-        result
-        (record { answers = answers.new; outputs = record { terms = part_terms.new; lengths = part_lengths.new; work = work.new } }) }
+// Splits the lists of a deployment that passed the checks one after another, and writes their answers.
+fn in_turn(lists: Lists<'_>, answers: &mut [u64], outputs: &mut Outputs<'_>)
+    requires { Passed (deploy_checks MAX_BOARDS (length lists.words.now) lists.lengths.now (length answers.old)) }
+    ensures deployed { Deployed TermList.MAX_TERMS TermList.MAX_VARS (cut lists.entry.lengths.now lists.entry.words.now)
+        (record { answers = answers.old; outputs = lent numbers outputs.old })
+        (length lists.entry.lengths.now)
+        (record { answers = answers.new; outputs = lent numbers outputs.new }) }
+    ensures loans { SameLoans outputs.old outputs.new }
 {
-    let n = lengths.len();
-    let mut at = 0;
-    let mut terms = 0;
-    let mut parts = 0;
-    let mut i = 0;
-    while i < n {
-        let end = at + lengths[i] as usize;
-        let list = &words[at..end];
-        let next = board(
-            list,
-            answers,
-            ANSWER * i,
-            part_terms,
-            terms,
-            part_lengths,
-            parts,
-            work,
-        );
-        terms = next.terms;
-        parts = next.parts;
-        at = end;
-        i += 1;
+    let mut rest = lists.words;
+    let mut filled = Filled { terms: 0, parts: 0 };
+    for (i, &length) in lists.lengths.iter().enumerate() {
+        let (list, behind) = rest.split_at(length as usize);
+        let room = &mut answers[ANSWER * i..];
+        filled = board(list, room, outputs, filled);
+        rest = behind;
     }
-    n
 }
 
-// Splits one list into the room behind `terms` words of part terms and `parts` part lengths, writes its answer from `at` on, and gives back
-// what is filled then.
-fn board(
-    list: &[u64],
-    answers: &mut [u64],
-    at: usize,
-    part_terms: &mut [u64],
-    terms: usize,
-    part_lengths: &mut [u64],
-    parts: usize,
-    work: &mut [u64],
-) -> Filled
-    requires { (at + ANSWER ≤ length answers.old) × (terms ≤ length part_terms.old) × (parts ≤ length part_lengths.old) }
-    ensures { Turned TermList.MAX_TERMS TermList.MAX_VARS list.now at terms parts answers.old
-        (record { terms = part_terms.old; lengths = part_lengths.old; work = work.old })
-        answers.new
-        (record { terms = part_terms.new; lengths = part_lengths.new; work = work.new })
-        result.terms result.parts }
+// Splits one list into the room behind what is filled, writes its answer at the start of the room for answers, and gives back what is filled
+// then.
+fn board(list: &[u64], room: &mut [u64], outputs: &mut Outputs<'_>, filled: Filled) -> Filled
+    requires { (ANSWER ≤ length room.old) × (filled.terms ≤ length outputs.old.terms.now) × (filled.parts ≤ length outputs.old.lengths.now) }
+    ensures turned { Turned TermList.MAX_TERMS TermList.MAX_VARS list.now filled room.old (lent numbers outputs.old)
+        room.new (lent numbers outputs.new) result }
+    ensures loans { SameLoans outputs.old outputs.new }
 {
-    let said = split(list, part_terms, terms, part_lengths, parts, work);
-    tell(&mut answers[at..], said);
-    let upto = parts + said.count as usize;
-    let filled = terms + sum(&part_lengths[parts..upto]);
+    let said = split(list, outputs, filled);
+    tell(room, said);
+    let parts = filled.parts + said.count as usize;
     Filled {
-        terms: filled,
-        parts: upto,
+        terms: filled.terms + total(outputs, filled.parts, parts),
+        parts,
     }
 }
 
-// Splits one list into the room behind `terms` words of part terms and `parts` part lengths.
-fn split(
-    list: &[u64],
-    part_terms: &mut [u64],
-    terms: usize,
-    part_lengths: &mut [u64],
-    parts: usize,
-    work: &mut [u64],
-) -> Answer
-    requires { (terms ≤ length part_terms.old) × (parts ≤ length part_lengths.old) }
-    ensures { SplitBehind TermList.MAX_TERMS TermList.MAX_VARS list.now terms parts
-        (record { terms = part_terms.old; lengths = part_lengths.old; work = work.old })
-        result
-        (record { terms = part_terms.new; lengths = part_lengths.new; work = work.new }) }
+// Splits one list into the room behind what is filled.
+fn split(list: &[u64], outputs: &mut Outputs<'_>, filled: Filled) -> Answer
+    requires { (filled.terms ≤ length outputs.old.terms.now) × (filled.parts ≤ length outputs.old.lengths.now) }
+    ensures behind { SplitBehind TermList.MAX_TERMS TermList.MAX_VARS list.now filled (lent numbers outputs.old) result (lent numbers outputs.new) }
+    ensures sizes { (length outputs.new.terms.now ≡ length outputs.old.terms.now)
+        × (length outputs.new.lengths.now ≡ length outputs.old.lengths.now) }
+    ensures loans { SameLoans outputs.old outputs.new }
 {
-    answer::numbers(parts::split(
+    split_into(
         list,
-        &mut part_terms[terms..],
-        &mut part_lengths[parts..],
+        &mut outputs.terms[filled.terms..],
+        &mut outputs.lengths[filled.parts..],
+        outputs.work,
+    )
+}
+
+// Splits one list into what is lent. It is a function of its own, since no proof is made of a call with `&mut` of a struct whose slices are
+// parts of those in another.
+fn split_into(list: &[u64], terms: &mut [u64], lengths: &mut [u64], work: &mut [u64]) -> Answer
+    ensures { SplitEnds TermList.MAX_TERMS TermList.MAX_VARS list.now
+        (record { terms = terms.old; lengths = lengths.old; work = work.old })
+        result
+        (record { terms = terms.new; lengths = lengths.new; work = work.new }) }
+{
+    let mut outputs = Outputs {
+        terms,
+        lengths,
         work,
-    ))
+    };
+    Answer::from(parts::split::<Narrow>(list, &mut outputs))
 }
 
 // Writes the four numbers of an answer at the start of the room.
@@ -161,23 +136,13 @@ fn tell(room: &mut [u64], said: Answer)
     requires { ANSWER ≤ length room.old }
     ensures { room.new ≡ answer_words (said ∷ []) ++ drop ANSWER room.old }
 {
-    room[0] = said.code;
-    room[1] = said.operand;
-    room[2] = said.place;
-    room[3] = said.count;
+    room[..ANSWER].copy_from_slice(&[said.code, said.operand, said.place, said.count]);
 }
 
-// The lengths added.
-fn sum(lengths: &[u64]) -> usize
-    requires { added lengths.now < 2 ^ 64 }
-    ensures { result ≡ added lengths.now }
+// The part lengths from one place to another, added.
+fn total(outputs: &Outputs<'_>, from: usize, to: usize) -> usize
+    requires { (from ≤ to) × (to ≤ length outputs.now.lengths.now) × (sum (slice_range outputs.now.lengths.now from to) < 2 ^ 64) }
+    ensures { result ≡ sum (slice_range outputs.now.lengths.now from to) }
 {
-    let n = lengths.len();
-    let mut all = 0;
-    let mut k = 0;
-    while k < n {
-        all += lengths[k] as usize;
-        k += 1;
-    }
-    all
+    outputs.lengths[from..to].iter().sum::<u64>() as usize
 }

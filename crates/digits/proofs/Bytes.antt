@@ -5,7 +5,8 @@ use mathlib.Core.List.{List}
 use Prim.Native.Nat.{ℕ, ◌+◌, ◌-◌, ◌*◌, ◌/◌, ◌%◌, ◌^◌, ◌≤◌, ◌<◌}
 use native.Mathlib.Nat.{div-one, mod-eq_of_lt, lt_of_lt_of_le}
 use native.Mathlib.Omega.{arith}
-use lib.ListN.{length, get_or}
+use lib.ListN.{length, get_or, take, drop, length-take}
+use lib.Seq.{get_or-take, get_or-drop}
 use lib.Pow.{pow_mono, shl_exact}
 use Rattle.digits.specs.Number.{bits, Below}
 use Rattle.digits.proofs.Bits.{bits_add, bits_below, bits_in_byte}
@@ -31,6 +32,17 @@ bits_byte_more bytes at i h a l =
     ap (λ (n : ℕ). bits bytes at (8 * i - at) * 256 + n) (sym (ap (λ (n : ℕ). n % 2 ^ 8) (div-one (get_or bytes i 0)) ∙ mod-eq_of_lt (h i)))
     ∙ sym (bits_head_more bytes at i 8 h a l (omega arith))
     ∙ ap (λ (e : ℕ). bits bytes at e) {y = 8 * (i + 1) - at} (omega arith)
+
+-- the same of the bytes that are gone through from the one behind the field's first
+pub bits_part_more : (bytes : List ℕ) (at first to k v b : ℕ) → Below 8 bytes → at / 8 < first → to ≤ length bytes
+    → k < length (take (to - first) (drop first bytes))
+    → v ≡ bits bytes at (8 * (first + k) - at) → b ≡ get_or (take (to - first) (drop first bytes)) k 0
+    → v * 256 + b ≡ bits bytes at (8 * (first + (k + 1)) - at)
+bits_part_more bytes at first to k v b h l t m e f =
+    let in_part : k < to - first = omega (arith, length-take (to - first) (drop first bytes)) in
+    ap₂ (λ (x y : ℕ). x * 256 + y) e (f ∙ get_or-take (to - first) (drop first bytes) k 0 in_part ∙ get_or-drop first bytes k 0)
+    ∙ bits_byte_more bytes at (first + k) h (omega arith) (omega arith)
+    ∙ ap (λ (i : ℕ). bits bytes at (8 * i - at)) {x = first + k + 1} {y = first + (k + 1)} (omega arith)
 
 -- a field of w bits at most is below 2 ^ w
 pub bits_fit : (bytes : List ℕ) (o k w : ℕ) → k ≤ w → bits bytes o k < 2 ^ w

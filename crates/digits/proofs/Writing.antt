@@ -1,13 +1,14 @@
 -- Bits put behind bits: what a written byte does to the number of the bytes so far. Leans on the laws of digits. Assumes nothing.
-use mathlib.Core.Path.{◌≡◌, refl, sym, ap, ap₂, ◌∙◌, subst}
-use mathlib.Core.List.{List}
+use mathlib.Core.Path.{◌≡◌, refl, sym, ap, ap₂, ◌∙◌, subst, subst₂}
+use mathlib.Core.List.{List, ◌++◌}
+use Rattle.std.proofs.lemmas.List.{set-append_left, set-append_right, take-append-drop}
 use Prim.Native.Nat.{ℕ, ◌+◌, ◌-◌, ◌*◌, ◌/◌, ◌%◌, ◌^◌, ◌≤◌, ◌<◌}
-use native.Mathlib.Nat.{add-mul, mul_assoc, lt_of_lt_of_le, le_of_eq, mod-lt}
+use native.Mathlib.Nat.{add-zero, add-sub_cancel_left, add-mul, mul_assoc, lt_of_lt_of_le, le_of_eq, mod-lt}
 use native.Mathlib.Numerals.{add-one}
 use native.Mathlib.Omega.{arith}
 use lib.Arith.{digits_lt}
-use lib.ListN.{length, take, drop, set, length-set}
-use lib.Seq.{take-suc-set, drop-set-lt, drop-drop}
+use lib.ListN.{length, take, drop, set, length-set, length-append}
+use lib.Seq.{length-take-le, take-suc-set, drop-set-lt, drop-drop}
 use lib.Pow.{pow_pos, pow-add, split, mod-pow-add, shr_lt, shl_exact}
 use Rattle.digits.specs.Number.{num}
 use Rattle.digits.specs.Carry.{Put}
@@ -123,6 +124,34 @@ written_more x old left₀ i₀ new left i b h l e w =
       place = omega arith;
       fewer = omega arith;
     }
+
+-- bytes in the place of the n from i on, which were lent
+abbrev pub with_part : ℕ → ℕ → List ℕ → List ℕ → List ℕ
+with_part i n old bytes = take i old ++ (bytes ++ drop n (drop i old))
+
+-- those that were there
+part_as_it_was : (i n : ℕ) (old : List ℕ) → with_part i n old (take n (drop i old)) ≡ old
+part_as_it_was i n old = ap (λ (l : List ℕ). take i old ++ l) (take-append-drop n (drop i old)) ∙ take-append-drop i old
+
+-- one of them written
+part_set : (i n k b : ℕ) (old bytes : List ℕ) → i ≤ length old → k < length bytes
+    → set (with_part i n old bytes) (i + k) b ≡ with_part i n old (set bytes k b)
+part_set i n k b old bytes h l =
+    set-append_right (take i old) (bytes ++ drop n (drop i old)) i (i + k) b (length-take-le i old h) (omega arith)
+    ∙ ap (λ (j : ℕ). take i old ++ set (bytes ++ drop n (drop i old)) j b) (add-sub_cancel_left i k)
+    ∙ ap (λ (m : List ℕ). take i old ++ m) (set-append_left bytes (drop n (drop i old)) k b l)
+
+-- where the loop over a part begins
+pub part_none : (x : ℕ) (old : List ℕ) (left i n : ℕ) → Written x old left i (with_part i n old (take n (drop i old))) left (i + 0)
+part_none x old left i n = subst₂ (λ (l : List ℕ) (k : ℕ). Written x old left i l left k) (sym (part_as_it_was i n old)) (sym (add-zero i)) (written_none x old left i)
+
+-- one byte more of the part
+pub part_more : (x : ℕ) (old bytes : List ℕ) (left₀ i n left k b : ℕ) → i ≤ length old → k < length bytes → 8 ≤ left
+    → b ≡ x / 2 ^ (left - 8) % 2 ^ 8 → Written x old left₀ i (with_part i n old bytes) left (i + k)
+    → Written x old left₀ i (with_part i n old (set bytes k b)) (left - 8) (i + (k + 1))
+part_more x old bytes left₀ i n left k b h l m e w =
+    let w' = written_more x old left₀ i (with_part i n old bytes) left (i + k) b m (omega (arith, length-append (take i old) (bytes ++ drop n (drop i old)), length-append bytes (drop n (drop i old)), length-take-le i old h)) e w in
+    subst₂ (λ (l : List ℕ) (j : ℕ). Written x old left₀ i l (left - 8) j) (part_set i n k b old bytes h l) (omega arith) w'
 
 -- the loop over the bytes is done
 pub put_done : (v : ℕ) (out : List ℕ) (at carry x width : ℕ) (new : List ℕ) (left i b : ℕ)

@@ -6,27 +6,12 @@ ghost use Rattle.std.specs.Prelude.{◌≡◌, ℕ, ◌+◌, ◌-◌, ◌*◌, �
 ghost use Rattle.digits.specs.Number.{bits};
 ghost use Rattle.digits.specs.Carry.{Put};
 
-// A byte as a word.
-fn wide(byte: u8) -> u64
-    ensures { result ≡ byte }
-{
-    byte as u64
-}
-
-// A word that fits a byte, as a byte.
-fn narrow(word: u64) -> u8
-    requires { word < 256 }
-    ensures { result ≡ word }
-{
-    word as u8
-}
-
 // The `width` bits of a byte behind its first `skip` bits.
 fn piece(byte: u8, skip: usize, width: usize) -> u64
     requires { skip + width ≤ 8 }
     ensures { result ≡ (byte / 2 ^ (8 - (skip + width))) % 2 ^ width }
 {
-    (wide(byte) >> (8 - (skip + width))) & ((1 << width) - 1)
+    (u64::from(byte) >> (8 - (skip + width))) & ((1 << width) - 1)
 }
 
 // The field from bit `at` to the end of the byte before byte `to`.
@@ -37,10 +22,8 @@ fn up_to(bytes: &[u8], at: usize, to: usize) -> u64
     let first = at / 8;
     let skip = at % 8;
     let mut value = piece(bytes[first], skip, 8 - skip);
-    let mut i = first + 1;
-    while i < to {
-        value = value * 256 + wide(bytes[i]);
-        i += 1;
+    for &byte in &bytes[first + 1..to] {
+        value = value * 256 + u64::from(byte);
     }
     value
 }
@@ -77,13 +60,12 @@ pub fn put(out: &mut [u8], at: usize, carry: u64, x: u64, width: usize) -> u64
         return (carry << width) + x;
     }
     let mut left = width - (8 - used);
-    let mut i = at / 8;
-    out[i] = narrow((carry << (8 - used)) + (x >> left));
-    i += 1;
-    while 8 <= left {
+    let first = at / 8;
+    out[first] = ((carry << (8 - used)) + (x >> left)) as u8;
+    let next = first + 1;
+    for byte in &mut out[next..next + left / 8] {
         left -= 8;
-        out[i] = narrow((x >> left) & 255);
-        i += 1;
+        *byte = ((x >> left) & 255) as u8;
     }
     x & ((1 << left) - 1)
 }

@@ -1,121 +1,131 @@
 // A call on given lists, with so many words lent, and what is printed of it.
-ghost use Rattle.std.specs.Prelude.{◌<◌, ◌≤◌, length};
+ghost use Rattle.std.specs.Prelude.{◌≤◌, length};
 
-use show::{fill, print_answer, print_buffer, print_long, text};
+use narrow::Narrow;
+use parts::Outputs;
+use show::{Buffer, Long, Numbers, Out, fill};
+use std::fmt::Write;
 
-fn print_lent(buffer: &[u64]) {
-    text(b" |");
-    print_buffer(buffer);
+// The words of a line, cut where its last four lists end: at a, at b, at c and at their end.
+#[derive(Clone, Copy)]
+struct Lists<'a> {
+    words: &'a [u64],
+    a: usize,
+    b: usize,
+    c: usize,
+    ghost in_order: { (a ≤ b) × (b ≤ c) × (c ≤ length words.now) },
 }
 
-// Part terms, which may begin with a list that is too long to print.
-fn print_terms(list: &[u64], part_terms: &[u64]) {
-    if list.len() < 16 {
-        print_lent(part_terms);
-        return;
-    }
-    text(b" |");
-    print_long(part_terms, list, b" the list itself");
-}
-
-fn split_into(list: &[u64], part_terms: &mut [u64], part_lengths: &mut [u64], work: &mut [u64]) {
-    let ended = parts::split(list, part_terms, part_lengths, work);
-    print_answer(answer::numbers(ended));
-    print_terms(list, part_terms);
-    print_lent(part_lengths);
-    print_lent(work);
-}
-
-fn split(list: &[u64], terms: usize, lengths: usize, work: usize) {
-    let mut part_terms = [9u64; 1100];
-    let mut part_lengths = [9u64; 70];
-    let mut work_area = [9u64; 4100];
-    if terms <= 1100 && lengths <= 70 && work <= 4100 {
-        split_into(
-            list,
-            &mut part_terms[0..terms],
-            &mut part_lengths[0..lengths],
-            &mut work_area[0..work],
-        );
+impl Lists<'_> {
+    // The words up to the last place, cut at the others. Places out of order do not occur.
+    fn cut(words: &[u64], ends: [usize; 4]) -> Option<Lists<'_>> {
+        let [a, b, c, d] = ends;
+        if a <= b && b <= c && c <= d && d <= words.len() {
+            let words = &words[..d];
+            Some(Lists { words, a, b, c })
+        } else {
+            None
+        }
     }
 }
 
-// What came out is compared with the terms 0..1023.
-fn multiply(a: &[u64], b: &[u64], room: usize) {
-    let mut out = [9u64; 2050];
-    let mut counted = [0u64; 1024];
-    fill(&mut counted, 0);
-    if room <= 2050 {
-        let lent = &mut out[0..room];
-        print_answer(answer::numbers(product::multiply(a, b, lent)));
-        text(b" |");
-        print_long(lent, &counted, b" the terms 0..1023 in order");
+// The calls that have examples here.
+#[derive(Clone, Copy)]
+enum Call {
+    Split,
+    Multiply,
+    Same,
+}
+
+impl Call {
+    // The call that a name's second letter says. A note, or what is too short for a name, is no call.
+    fn named(name: &[u8]) -> Option<Call> {
+        match name {
+            [] | [_] | [b'#', ..] => None,
+            [_, b'p', ..] => Some(Call::Split),
+            [_, b'u', ..] => Some(Call::Multiply),
+            _ => Some(Call::Same),
+        }
+    }
+
+    // What the call says of the lists.
+    fn run(self, lists: Lists<'_>) {
+        match self {
+            Call::Split => split(lists),
+            Call::Multiply => multiply(lists),
+            Call::Same => same(lists),
+        }
     }
 }
 
-// Split of the first a words, lending as many words as the last three say.
-fn split_first(words: &[u64], a: usize) {
-    if words.len() < a {
-        return;
-    }
-    if words.len() - a == 3 {
-        split(
-            &words[0..a],
-            words[a] as usize,
-            words[a + 1] as usize,
-            words[a + 2] as usize,
-        );
-    }
-}
-
-// Multiply of the words to b with those to c, lending as many words as the last says.
-fn multiply_first(words: &[u64], b: usize, c: usize)
-    requires { (b ≤ c) × (c ≤ length words.now) }
-{
-    if c < words.len() {
-        multiply(&words[0..b], &words[b..c], words[c] as usize);
-    }
-}
-
-fn same(words: &[u64], a: usize, b: usize, c: usize)
-    requires { (a ≤ b) × (b ≤ c) × (c ≤ length words.now) }
-{
-    let ended = same::same_products(&words[0..a], &words[a..b], &words[b..c], &words[c..]);
-    print_answer(answer::numbers(ended));
-}
-
-// The call that the name begins with, on the lists that end at a, at b, at c and with the words.
-fn call(name: &[u8], words: &[u64], a: usize, b: usize, c: usize)
-    requires { (1 < length name.now) × (a ≤ b) × (b ≤ c) × (c ≤ length words.now) }
-{
-    let second = name[1];
-    if second == b'p' {
-        split_first(words, a);
-    } else if second == b'u' {
-        multiply_first(words, b, c);
+// What split left; part terms may begin with a list that is too long to print.
+fn print_left(list: &[u64], outputs: &Outputs<'_>) {
+    let buffer = &*outputs.terms;
+    let name = " the list itself";
+    let _ = if list.len() < 16 {
+        write!(Out, "{}", Buffer(buffer))
     } else {
-        same(words, a, b, c);
+        write!(Out, "{}", Long { buffer, list, name })
+    };
+    let _ = write!(
+        Out,
+        " |{} |{}",
+        Buffer(outputs.lengths),
+        Buffer(outputs.work)
+    );
+}
+
+// Split of the first list, lending as many words as the three words behind it say.
+fn split(lists: Lists<'_>) {
+    let mut part_terms = [9; 1100];
+    let mut part_lengths = [9; 70];
+    let mut work_area = [9; 4100];
+    let (list, rooms) = lists.words.split_at(lists.a);
+    if let [room_for_terms, room_for_lengths, room_for_work] = rooms
+        && let Some(terms) = part_terms.get_mut(..*room_for_terms as usize)
+        && let Some(lengths) = part_lengths.get_mut(..*room_for_lengths as usize)
+        && let Some(work) = work_area.get_mut(..*room_for_work as usize)
+    {
+        let mut outputs = Outputs {
+            terms,
+            lengths,
+            work,
+        };
+        let said = parts::split::<Narrow>(list, &mut outputs);
+        let _ = write!(Out, "{} |", Numbers(said));
+        print_left(list, &outputs);
     }
 }
 
-// The name, and the call. Places out of order do not occur.
-pub fn run(name: &[u8], words: &[u64], a: usize, b: usize, c: usize) {
-    if name.len() < 2 {
-        return;
+// Multiply of the words to b with those to c, lending as many words as the next one says. What came out is compared with the terms 0..1023.
+fn multiply(lists: Lists<'_>) {
+    let Lists { words, b, c, .. } = lists;
+    let mut out = [9; 2050];
+    let mut counted = [0; 1024];
+    fill(&mut counted, 0);
+    if let Some(room) = words.get(c)
+        && let Some(buffer) = out.get_mut(..*room as usize)
+    {
+        let said = Numbers(product::multiply::<Narrow>(&words[..b], &words[b..c], buffer));
+        let list = &counted;
+        let name = " the terms 0..1023 in order";
+        let _ = write!(Out, "{said} |{}", Long { buffer, list, name });
     }
-    if name[0] == b'#' {
-        return;
+}
+
+fn same(lists: Lists<'_>) {
+    let Lists { words, a, b, c } = lists;
+    let said = same::same_products::<Narrow>(&words[..a], &words[a..b], &words[b..c], &words[c..]);
+    let _ = write!(Out, "{}", Numbers(said));
+}
+
+// The name, and the call that it is of on the words, cut where the lists end.
+pub fn run(name: &[u8], words: &[u64], ends: [usize; 4]) {
+    if let Some(call) = Call::named(name)
+        && let Some(lists) = Lists::cut(words, ends)
+    {
+        Out.put(name);
+        call.run(lists);
+        let _ = writeln!(Out);
     }
-    if words.len() < c {
-        return;
-    }
-    if c < b {
-        return;
-    }
-    if b < a {
-        return;
-    }
-    text(name);
-    call(name, words, a, b, c);
-    text(b"\n");
 }

@@ -1,10 +1,9 @@
--- How a step ends, by its answer.
+-- How a step ends, by its answer; `value` gives the number of a term.
 use Rattle.std.specs.Prelude.{ℕ, List}
-use Rattle.narrow.specs.Numbers.{value}
 use Rattle.grow.specs.declared.Step.{Step}
 use Rattle.grow.specs.declared.Step.TheVariants.{Whole, Grow}
 use Rattle.grow.specs.Steps.{StepWhole, StepMore}
 
-abbrev pub Stepped : List ℕ → ℕ → ℕ → List ℕ → Step → Type 0
-Stepped f n y work (Whole part rest) = StepWhole f n y work part rest
-Stepped f n y work (Grow more) = StepMore f n y work (value more)
+abbrev pub Stepped : {T : Type 0} (value : T → ℕ) → List ℕ → ℕ → List ℕ → List ℕ → Step T → Type 0
+Stepped value f y inside outside (Whole counts) = StepWhole f y inside outside counts.part counts.rest
+Stepped value f y inside outside (Grow more) = StepMore f y (value more)

@@ -1,6 +1,6 @@
 -- What the steps of growing a part promise each other. Nothing here has to be believed: the promise of split speaks of
 -- the definitions of polys alone, and these records only carry its proof from function to function.
-use Rattle.std.specs.Prelude.{ℕ, ◌+◌, ◌≤◌, ◌<◌, ◌≡◌, true, List, [], ◌∷◌, length, get_or, take, drop}
+use Rattle.std.specs.Prelude.{ℕ, ◌≤◌, ◌<◌, ◌≡◌, true, List, [], ◌∷◌, length, get_or, take}
 use Rattle.std.specs.Int.Bits.{bit_and, bit_or, bit_xor}
 use Rattle.masks.specs.Bit.{bit, without}
 use Rattle.masks.proofs.Lowest.{IsLowest}
@@ -35,33 +35,28 @@ pub record Picks (f : List ℕ) (y w : ℕ) (inside outside : List ℕ) : Type 0
   pub inner : inside ≡ pick y w (bit_and (first f) w) f
   pub outer : outside ≡ pick w y (bit_and (first f) y) f
 
--- a list f, not too long to be counted, is the first n terms of the work area, which has room for three of its length; y are some of
--- its variables
-pub record Ready (f : List ℕ) (work : List ℕ) (n y all : ℕ) : Type 0 where
-  pub list : take n work ≡ f
+-- a list f that is not zero and not too long to be counted; y are some of its variables
+pub record Growable (f : List ℕ) (y all : ℕ) : Type 0 where
   pub ascends : Asc f
-  pub some : 0 < n
-  pub short : n ≤ 65535
-  pub room : n + (n + n) ≤ length work
+  pub some : 0 < length f
+  pub short : length f ≤ 65535
   pub variables : all ≡ vars f
   pub inside : bit_and y all ≡ y
 
--- the list is still the first n terms, with the picked terms behind it
-pub record Laid (f : List ℕ) (n y w : ℕ) (work : List ℕ) (part rest : ℕ) : Type 0 where
-  pub list : take n work ≡ f
-  pub inner : take part (drop n work) ≡ pick y w (bit_and (first f) w) f
-  pub outer : take rest (drop (n + n) work) ≡ pick w y (bit_and (first f) y) f
+-- what was picked from f stands at the start of the two rooms
+pub record Laid (f : List ℕ) (y w : ℕ) (inside outside : List ℕ) (part rest : ℕ) : Type 0 where
+  pub inner : take part inside ≡ pick y w (bit_and (first f) w) f
+  pub outer : take rest outside ≡ pick w y (bit_and (first f) y) f
   pub part_count : part ≡ length (pick y w (bit_and (first f) w) f)
   pub rest_count : rest ≡ length (pick w y (bit_and (first f) y) f)
-  pub part_fits : part ≤ n
-  pub rest_fits : rest ≤ n
+  pub part_fits : part ≤ length f
+  pub rest_fits : rest ≤ length f
 
--- the list is still the first n terms, with itself and the term 1 behind it
-pub record LaidWhole (f : List ℕ) (n : ℕ) (work : List ℕ) (part rest : ℕ) : Type 0 where
-  pub list : take n work ≡ f
-  pub inner : take part (drop n work) ≡ f
-  pub outer : take rest (drop (n + n) work) ≡ 0 ∷ []
-  pub part_count : part ≡ n
+-- f itself and the term 1 stand there
+pub record LaidWhole (f inside outside : List ℕ) (part rest : ℕ) : Type 0 where
+  pub inner : take part inside ≡ f
+  pub outer : take rest outside ≡ 0 ∷ []
+  pub part_count : part ≡ length f
   pub rest_count : rest ≡ 1
 
 -- variables outside y, if any, that belong to whatever y belongs to
@@ -75,22 +70,22 @@ pub record Brings (f : List ℕ) (y more : ℕ) : Type 0 where
   pub belongs : Belongs f y more
   pub closed : more ≡ 0 → Closed y f
 
--- the list and its two projections along y stand in the work area
-pub record Stands (f : List ℕ) (n y : ℕ) (work : List ℕ) (part rest : ℕ) : Type 0 where
-  pub onto_y : take part (drop n work) ≡ onto y f
-  pub off_y : take rest (drop (n + n) work) ≡ off y f
+-- the two projections of f along y stand at the start of the two rooms
+pub record Stands (f : List ℕ) (y : ℕ) (inside outside : List ℕ) (part rest : ℕ) : Type 0 where
+  pub onto_y : take part inside ≡ onto y f
+  pub off_y : take rest outside ≡ off y f
   pub part_count : part ≡ length (onto y f)
   pub rest_count : rest ≡ length (off y f)
-  pub part_fits : part ≤ n
-  pub rest_fits : rest ≤ n
+  pub part_fits : part ≤ length f
+  pub rest_fits : rest ≤ length f
 
 -- a step ends with a closed y and its projections laid out,
-abbrev pub StepWhole : List ℕ → ℕ → ℕ → List ℕ → ℕ → ℕ → Type 0
-StepWhole f n y work part rest = (take n work ≡ f) × Closed y f × Stands f n y work part rest
+abbrev pub StepWhole : List ℕ → ℕ → List ℕ → List ℕ → ℕ → ℕ → Type 0
+StepWhole f y inside outside part rest = Closed y f × Stands f y inside outside part rest
 
 -- or with more variables
-abbrev pub StepMore : List ℕ → ℕ → ℕ → List ℕ → ℕ → Type 0
-StepMore f n y work more = (take n work ≡ f) × Belongs f y more × ¬ (more ≡ 0)
+abbrev pub StepMore : List ℕ → ℕ → ℕ → Type 0
+StepMore f y more = Belongs f y more × ¬ (more ≡ 0)
 
 -- y are the variables of the part of the lowest variable
 pub record PartOfLowest (f : List ℕ) (y : ℕ) : Type 0 where

@@ -3,54 +3,49 @@
 // difference, and y is the part; or the first difference says which variables belong to y as well.
 #![tactic(auto)]
 
-ghost use Rattle.std.specs.Prelude.{◌≡◌, ◌+◌, ◌≤◌, ◌<◌, length, take, drop};
+ghost use Rattle.std.specs.Prelude.{◌≡◌, ◌≤◌, ◌<◌, length};
 ghost use Rattle.std.specs.Int.Bits.{bit_and};
-ghost use Rattle.polys.specs.List.{Asc};
 ghost use Rattle.polys.specs.Poly.{vars};
+ghost use Rattle.polys.specs.List.{Asc};
 ghost use Rattle.masks.specs.Bit.{without};
 ghost use Rattle.counts.specs.Planes.{Tallied};
-ghost use Rattle.narrow.specs.Numbers.{value, numbers};
-ghost use Rattle.grow.specs.Steps.{Least, Agrees, Picks, Belongs, Brings, Ready, Laid, LaidWhole, Stands, PartOfLowest};
+ghost use Rattle.grow.specs.Steps.{Least, Agrees, Picks, Belongs, Brings, Growable, Laid, LaidWhole, Stands, PartOfLowest};
 ghost use Rattle.grow.specs.Stepped.{Stepped};
 
-use narrow::Term;
-use walk::Beside;
+use term::Term;
+use walk::Difference;
 
 // The least difference from t, on w, of a term that is on y what s is; there is such a term.
-fn least(f: &[u64], y: Term, w: Term, s: Term, t: Term) -> Term
-    requires { Agrees (numbers f.now) (value y) (value s) }
-    ensures { Least (numbers f.now) (value y) (value w) (value s) (value t) (value result) }
+fn least<T: Term>(f: &[u64], y: T, w: T, s: T, t: T) -> T
+    requires { Agrees (T.numbers f.now) (T.value y) (T.value s) }
+    ensures { Least (T.numbers f.now) (T.value y) (T.value w) (T.value s) (T.value t) (T.value result) }
 {
-    let n = narrow::count(f);
-    let on = narrow::and(s, y);
+    let on = s.and(y);
     let mut d = w;
-    let mut i = 0;
-    while i < n {
-        let u = narrow::at(f, i);
-        if narrow::same(narrow::and(u, y), on) {
-            let differs = narrow::and(narrow::xor(u, t), w);
-            if narrow::less(differs, d) {
+    for i in 0..T::count(f) {
+        let u = T::at(f, i);
+        if u.and(y).same(on) {
+            let differs = u.xor(t).and(w);
+            if differs.less(d) {
                 d = differs;
             }
         }
-        i += 1;
     }
     d
 }
 
 // The variables that the first difference of the list and the product of its two picks puts with y; none if there is no difference.
-fn brought(f: &[u64], inner: &[u64], outer: &[u64], y: Term, w: Term) -> Term
-    requires { Picks (numbers f.now) (value y) (value w) (numbers inner.now) (numbers outer.now) }
-    ensures { Brings (numbers f.now) (value y) (value result) }
+fn brought<T: Term>(f: &[u64], inner: &[u64], outer: &[u64], y: T, w: T) -> T
+    requires { Picks (T.numbers f.now) (T.value y) (T.value w) (T.numbers inner.now) (T.numbers outer.now) }
+    ensures { Brings (T.numbers f.now) (T.value y) (T.value result) }
 {
-    let first = narrow::at(f, 0);
-    let found = walk::compared(inner, outer, f);
-    match found {
-        Beside::Same => narrow::none(),
-        Beside::Missing { u } => least(f, y, w, u, u),
-        Beside::Extra { u } => {
+    let first = T::at(f, 0);
+    match walk::compared(inner, outer, f) {
+        None => T::none(),
+        Some(Difference::Missing { u }) => least(f, y, w, u, u),
+        Some(Difference::Extra { u }) => {
             let d = least(f, y, w, u, first);
-            if !narrow::empty(d) {
+            if !d.empty() {
                 return d;
             }
             least(f, y, w, first, u)
@@ -58,34 +53,13 @@ fn brought(f: &[u64], inner: &[u64], outer: &[u64], y: Term, w: Term) -> Term
     }
 }
 
-// The same for a list and its two picks in the work area: the first n terms, `part` terms behind them, and `rest` terms behind twice n.
-fn brought_by(work: &[u64], n: usize, part: usize, rest: usize, y: Term, w: Term) -> Term
-    requires { Picks (take n (numbers work.now)) (value y) (value w)
-        (take part (drop n (numbers work.now))) (take rest (drop (n + n) (numbers work.now)))
-        × (n + part ≤ length (numbers work.now)) × (n + n + rest ≤ length (numbers work.now)) }
-    ensures { Brings (take n (numbers work.now)) (value y) (value result) }
+// The variables of w, outside y, that the counts of the list put with x, which is in y; `alone` are the counts of all its terms.
+fn counted<T: Term>(f: &[u64], alone: &[u64], x: T, y: T, w: T) -> T
+    requires { Asc (T.numbers f.now) × Tallied (T.numbers f.now) (T.numbers alone.now)
+        × (T.value w ≡ without (T.value y) (vars (T.numbers f.now))) × (bit_and (T.value x) (T.value y) ≡ T.value x) }
+    ensures { Belongs (T.numbers f.now) (T.value y) (T.value result) }
 {
-    let inner = narrow::words(n);
-    let inner_end = narrow::words(n + part);
-    let outer = narrow::words(n + n);
-    let outer_end = narrow::words(n + n + rest);
-    brought(
-        &work[0..inner],
-        &work[inner..inner_end],
-        &work[outer..outer_end],
-        y,
-        w,
-    )
-}
-
-// The variables of w, outside y, that the counts of the first n terms put with x, which is in y; `alone` are the counts of all of them.
-fn counted(work: &[u64], n: usize, alone: &[u64], x: Term, y: Term, w: Term) -> Term
-    requires { (n ≤ length (numbers work.now)) × Asc (take n (numbers work.now)) × Tallied (take n (numbers work.now)) (numbers alone.now)
-        × (value w ≡ without (value y) (vars (take n (numbers work.now)))) × (bit_and (value x) (value y) ≡ value x) }
-    ensures { Belongs (take n (numbers work.now)) (value y) (value result) }
-{
-    let end = narrow::words(n);
-    counts::uneven(&work[0..end], alone, x, w)
+    counts::uneven(f, alone, x, w)
 }
 
 // How many terms were picked for the part, and for the rest.
@@ -95,126 +69,126 @@ pub struct Counts {
     pub rest: usize,
 }
 
-// Behind the list, the terms that agree with its first term outside y, on y; and those that agree with it on y, outside y. Each is
-// written before it is known whether it stays.
-fn lay_out(work: &mut [u64], n: usize, y: Term, w: Term) -> Counts
-    requires { (0 < n) × (n + (n + n) ≤ length (numbers work.old)) }
-    ensures { Laid (take n (numbers work.old)) n (value y) (value w) (numbers work.new) result.part result.rest }
+// Into the one room, the terms that agree with the list's first term outside y, on y; and into the other those that agree with it on y,
+// outside y. Each is written before it is known whether it stays.
+// The list and the two rooms are lent one by one, here and below: of a struct that lends them each promise would also have to say that it
+// still lends the same rooms.
+fn lay_out<T: Term>(f: &[u64], inner: &mut [u64], outer: &mut [u64], y: T, w: T) -> Counts
+    requires { (0 < length (T.numbers f.now)) × (length (T.numbers f.now) ≤ length (T.numbers inner.old))
+        × (length (T.numbers f.now) ≤ length (T.numbers outer.old)) }
+    ensures { Laid (T.numbers f.now) (T.value y) (T.value w) (T.numbers inner.new) (T.numbers outer.new) result.part result.rest }
 {
-    let first = narrow::at(work, 0);
-    let on = narrow::and(first, y);
-    let off = narrow::and(first, w);
+    let first = T::at(f, 0);
+    let on = first.and(y);
+    let off = first.and(w);
     let mut part = 0;
     let mut rest = 0;
-    let mut i = 0;
-    while i < n {
-        let t = narrow::at(work, i);
-        let inside = narrow::and(t, y);
-        let outside = narrow::and(t, w);
-        let inner = n + part;
-        let outer = n + n + rest;
-        narrow::put(work, inner, inside);
-        narrow::put(work, outer, outside);
-        if narrow::same(outside, off) {
+    for i in 0..T::count(f) {
+        let t = T::at(f, i);
+        let inside = t.and(y);
+        let outside = t.and(w);
+        T::put(inner, part, inside);
+        T::put(outer, rest, outside);
+        if outside.same(off) {
             part += 1;
         }
-        if narrow::same(inside, on) {
+        if inside.same(on) {
             rest += 1;
         }
-        i += 1;
     }
     Counts { part, rest }
 }
 
-// Behind the list, the list itself, and the term 1: what is laid out where y is all variables.
-fn lay_whole(work: &mut [u64], n: usize) -> Counts
-    requires { (0 < n) × (n + (n + n) ≤ length (numbers work.old)) }
-    ensures { LaidWhole (take n (numbers work.old)) n (numbers work.new) result.part result.rest }
+// The list itself, and the term 1: what is laid out where y is all variables.
+fn lay_whole<T: Term>(f: &[u64], inner: &mut [u64], outer: &mut [u64]) -> Counts
+    requires { (0 < length (T.numbers f.now)) × (length (T.numbers f.now) ≤ length (T.numbers inner.old))
+        × (length (T.numbers f.now) ≤ length (T.numbers outer.old)) }
+    ensures { LaidWhole (T.numbers f.now) (T.numbers inner.new) (T.numbers outer.new) result.part result.rest }
 {
-    let mut i = 0;
-    while i < n {
-        narrow::put(work, n + i, narrow::at(work, i));
-        i += 1;
-    }
-    narrow::put(work, n + n, narrow::none());
-    Counts { part: n, rest: 1 }
+    let part = T::count(f);
+    let end = T::words(part);
+    copying::copy(&f[..end], &mut inner[..end]);
+    T::put(outer, 0, T::none());
+    Counts { part, rest: 1 }
 }
 
-// What one step finds: y is the whole part, with the part and the rest laid out; or it has to grow.
+// What one step finds: y is the whole part, with the part and the rest laid out; or it has to grow by more variables. Neither is an error or
+// an absence, so it is an enum of its own.
 #[derive(Clone, Copy)]
-pub enum Step {
-    Whole { part: usize, rest: usize },
-    Grow { more: Term },
+pub enum Step<T> {
+    Whole(Counts),
+    Grow(T),
 }
 
 // One step: y is all variables, or the list is held against the product of what is laid out. What a difference brings, brings with it
 // what the counts put with it.
-fn one_step(work: &mut [u64], n: usize, alone: &[u64], y: Term, all: Term) -> Step
-    requires { Ready (take n (numbers work.old)) (numbers work.old) n (value y) (value all)
-        × Tallied (take n (numbers work.old)) (numbers alone.now) }
-    ensures { Stepped (take n (numbers work.old)) n (value y) (numbers work.new) result }
+fn one_step<T: Term>(
+    f: &[u64],
+    inner: &mut [u64],
+    outer: &mut [u64],
+    alone: &[u64],
+    y: T,
+    all: T,
+) -> Step<T>
+    requires { Growable (T.numbers f.now) (T.value y) (T.value all) × Tallied (T.numbers f.now) (T.numbers alone.now)
+        × (length (T.numbers f.now) ≤ length (T.numbers inner.old)) × (length (T.numbers f.now) ≤ length (T.numbers outer.old)) }
+    ensures { Stepped T.value (T.numbers f.now) (T.value y) (T.numbers inner.new) (T.numbers outer.new) result }
 {
-    if narrow::same(y, all) {
-        let whole = lay_whole(work, n);
-        let part = whole.part;
-        let rest = whole.rest;
-        return Step::Whole { part, rest };
+    if y.same(all) {
+        return Step::Whole(lay_whole::<T>(f, inner, outer));
     }
-    let w = narrow::off(all, y);
-    let counts = lay_out(work, n, y, w);
-    let part = counts.part;
-    let rest = counts.rest;
-    let d = brought_by(work, n, part, rest, y, w);
-    if narrow::empty(d) {
-        return Step::Whole { part, rest };
+    let w = all.off(y);
+    let counts = lay_out(f, inner, outer, y, w);
+    let part = T::words(counts.part);
+    let rest = T::words(counts.rest);
+    let d = brought(f, &inner[..part], &outer[..rest], y, w);
+    if d.empty() {
+        return Step::Whole(counts);
     }
-    let x = narrow::lowest(d);
-    let more = counted(work, n, alone, x, narrow::or(y, d), narrow::off(w, d));
-    let more = narrow::or(d, more);
-    Step::Grow { more }
+    let more = counted(f, alone, d.lowest(), y.or(d), w.off(d));
+    Step::Grow(d.or(more))
 }
 
-// The variables of a part, with the part and the rest laid out.
+// The variables of a part, and how many terms of the part and of the rest are laid out.
 #[derive(Clone, Copy)]
-pub struct Found {
-    pub y: Term,
-    pub part: usize,
-    pub rest: usize,
+pub struct Found<T> {
+    pub y: T,
+    pub counts: Counts,
 }
 
-// The part of the lowest variable of the list of the first n terms; `all` are its variables, and `alone` are the counts of its terms.
-fn grown(work: &mut [u64], n: usize, alone: &[u64], all: Term) -> Found
-    requires { Ready (take n (numbers work.old)) (numbers work.old) n 0 (value all) × (0 < value all)
-        × Tallied (take n (numbers work.old)) (numbers alone.now) }
-    ensures { (take n (numbers work.new) ≡ take n (numbers work.old))
-        × PartOfLowest (take n (numbers work.old)) (value result.y)
-        × Stands (take n (numbers work.old)) n (value result.y) (numbers work.new) result.part result.rest }
+// The part of the lowest variable of the list; `all` are its variables, and `alone` are the counts of its terms.
+fn grown<T: Term>(
+    f: &[u64],
+    inner: &mut [u64],
+    outer: &mut [u64],
+    alone: &[u64],
+    all: T,
+) -> Found<T>
+    requires { Growable (T.numbers f.now) 0 (T.value all) × (0 < T.value all) × Tallied (T.numbers f.now) (T.numbers alone.now)
+        × (length (T.numbers f.now) ≤ length (T.numbers inner.old)) × (length (T.numbers f.now) ≤ length (T.numbers outer.old)) }
+    ensures { PartOfLowest (T.numbers f.now) (T.value result.y)
+        × Stands (T.numbers f.now) (T.value result.y) (T.numbers inner.new) (T.numbers outer.new) result.counts.part result.counts.rest }
 {
-    let x = narrow::lowest(all);
-    let more = counted(work, n, alone, x, x, narrow::off(all, x));
-    let mut y = narrow::or(x, more);
+    let x = all.lowest();
+    let more = counted(f, alone, x, x, all.off(x));
+    let mut y = x.or(more);
     loop {
-        let made = one_step(work, n, alone, y, all);
-        match made {
-            Step::Whole { part, rest } => {
-                return Found { y, part, rest };
-            }
-            Step::Grow { more } => {
-                y = narrow::or(y, more);
-            }
+        match one_step(f, inner, outer, alone, y, all) {
+            Step::Whole(counts) => return Found { y, counts },
+            Step::Grow(more) => y = y.or(more),
         }
     }
 }
 
-// The part of the lowest variable of the list of the first n terms; `all` are its variables.
-pub fn part_of_lowest(work: &mut [u64], n: usize, all: Term) -> Found
-    requires { Ready (take n (numbers work.old)) (numbers work.old) n 0 (value all) × (0 < value all) }
-    ensures { (take n (numbers work.new) ≡ take n (numbers work.old))
-        × PartOfLowest (take n (numbers work.old)) (value result.y)
-        × Stands (take n (numbers work.old)) n (value result.y) (numbers work.new) result.part result.rest }
+// The part of the lowest variable of the list, whose variables are `all`: the part is laid out in the one room, and the rest in the other.
+pub fn part_of_lowest<T: Term>(f: &[u64], inner: &mut [u64], outer: &mut [u64], all: T) -> Found<T>
+    requires { Growable (T.numbers f.now) 0 (T.value all) × (0 < T.value all)
+        × (length (T.numbers f.now) ≤ length (T.numbers inner.old)) × (length (T.numbers f.now) ≤ length (T.numbers outer.old)) }
+    ensures { PartOfLowest (T.numbers f.now) (T.value result.y)
+        × Stands (T.numbers f.now) (T.value result.y) (T.numbers inner.new) (T.numbers outer.new) result.counts.part result.counts.rest }
 {
-    let mut alone = [0u64; 16 * Term::WORDS];
-    let end = narrow::words(n);
-    counts::tally(&work[0..end], &mut alone);
-    grown(work, n, &alone, all)
+    let mut alone = [0u64; 2 * 16];
+    let alone = &mut alone[..T::words(16)];
+    counts::tally::<T>(f, alone);
+    grown(f, inner, outer, alone, all)
 }

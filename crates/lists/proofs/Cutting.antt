@@ -1,5 +1,5 @@
 -- Words cut into lists by their lengths, and lists put one behind the other: each undoes the other. Assumes nothing.
-use Prim.Native.Nat.{ℕ, suc, ◌+◌, ◌-◌, ◌≤◌, ◌<◌}
+use Prim.Native.Nat.{ℕ, suc, ◌+◌, ◌≤◌, ◌<◌}
 use native.Mathlib.Numerals.{add-one}
 use mathlib.Core.Path.{◌≡◌, refl, sym, ap, ap₂, ◌∙◌}
 use mathlib.Core.List.{List, [], ◌∷◌, ◌++◌, append_assoc}
@@ -58,22 +58,17 @@ unfolding cut
 length_cut [] words = refl
 length_cut (l ∷ ls) words = ap suc (length_cut ls (drop l words))
 
--- the lists from a place on, whose words begin at another: the one there, and those behind it
-pub cut_from : (ls words : List ℕ) (i at : ℕ) → i < length ls
-    → cut (drop i ls) (drop at words) ≡ take (get_or ls i 0) (drop at words) ∷ cut (drop (i + 1) ls) (drop (at + get_or ls i 0) words)
+-- the lists from a place on, whose words are the first of the rest: the one there, and those behind it
+pub cut_next : (ls rest : List ℕ) (i : ℕ) → i < length ls → cut (drop i ls) rest ≡ take (get_or ls i 0) rest ∷ cut (drop (i + 1) ls) (drop (get_or ls i 0) rest)
 unfolding cut
-cut_from ls words i at here =
-    ap (λ (l : List ℕ). cut l (drop at words)) (drop-cons ls i 0 here)
-    ∙ ap₂ (λ (n : ℕ) (w : List ℕ). take (get_or ls i 0) (drop at words) ∷ cut (drop n ls) w) (sym (add-one i)) (drop-drop (get_or ls i 0) at words)
+cut_next ls rest i here =
+    ap (λ (l : List ℕ). cut l rest) (drop-cons ls i 0 here)
+    ∙ ap (λ (n : ℕ). take (get_or ls i 0) rest ∷ cut (drop n ls) (drop (get_or ls i 0) rest)) (sym (add-one i))
 
 -- none is behind the last
 pub none_behind : (ls words : List ℕ) (i : ℕ) → i ≡ length ls → cut (drop i ls) words ≡ []
 unfolding cut
 none_behind ls words i e = ap (λ (l : List ℕ). cut l words) (ap (λ (n : ℕ). drop n ls) e ∙ drop-length ls)
-
--- a list between two places, as it is lent
-pub lent_list : (words : List ℕ) (at n : ℕ) → take (at + n - at) (drop at words) ≡ take n (drop at words)
-lent_list words at n = let e : at + n - at ≡ n = omega arith in ap (λ (k : ℕ). take k (drop at words)) e
 
 -- one list written and another behind it, in the rest of the buffer: both written
 pub over_behind : (p q d : List ℕ) (n : ℕ) → n ≡ length p → take n (over p d) ++ over q (drop n (over p d)) ≡ over (p ++ q) d

@@ -1,9 +1,9 @@
 -- The numbers behind words, in the smaller size: a term is one word, and its number is that word.
 use Rattle.std.specs.Prelude.{ℕ, List}
-use Rattle.narrow.specs.declared.Term.{Term}
+use Rattle.narrow.specs.declared.Narrow.{Narrow}
 
 -- the number of a term
-abbrev pub value : Term → ℕ
+abbrev pub value : Narrow → ℕ
 value t = t.bits
 
 -- the terms that stand in the words

@@ -1,16 +1,19 @@
 -- What *same products* says of the four lists is what together answers of the parts: the lists lie in the room one behind another, they pass
 -- its checks, and by the papers' rule AD = BC exactly if no part holds both variables.
-use Prim.Native.Nat.{ℕ, ◌+◌, ◌-◌, ◌*◌, ◌%◌, ◌^◌, ◌≤◌, ◌<◌}
+use Prim.Native.Nat.{ℕ, ◌+◌, ◌*◌, ◌%◌, ◌^◌, ◌≤◌, ◌<◌}
 use mathlib.Core.Path.{◌≡◌, refl, sym, ap, ap₂, ◌∙◌, subst}
-use mathlib.Core.Bool.{Bool, true, false, true≢false}
-use mathlib.Core.List.{List, [], ◌++◌, append_assoc}
+use mathlib.Core.Bool.{Bool, true, false, not, true≢false}
+use mathlib.Core.List.{List, ◌++◌, append_assoc}
 use mathlib.Core.Logic.{◌↔◌, inl, inr}
-use native.Mathlib.Nat.{le_trans, lt_of_not-le, one-mul, zero-add}
+use native.Mathlib.Nat.{le_trans, lt_of_not-le, one-mul}
 use native.Mathlib.Omega.{arith}
+use borrow.Author.Tests.{eq-eqb, ne_eqb}
 use lib.Bits.{bit_or}
+use lib.Dec.{eqb}
 use lib.ListN.{length, take, drop, length-append}
 use lib.Pow.{shl_exact}
-use lib.Seq.{take_at, drop_at}
+use lib.Seq.{take_at, drop_at, drop-drop}
+use Rattle.std.specs.Int.{from_bool}
 use Rattle.answer.specs.declared.Answer.{Answer}
 use Rattle.answer.specs.Ends.{over}
 use Rattle.answer.proofs.Ends.{passed_accepts}
@@ -23,73 +26,38 @@ use Rattle.polys.proofs.Polys.{vars_nil}
 use Rattle.exists.specs.PartsOf.{parts_of}
 use Rattle.exists.proofs.Exist.{parts_of_is_parts}
 use Rattle.ring.specs.Run.{lacking}
-use Rattle.ring.specs.Same.{one_if, SameProducts}
+use Rattle.ring.specs.Same.{one_if}
 use Rattle.rule.specs.Rule.{derivative, Below, PapersSay, together}
 use Rattle.rule.proofs.Derivative.{lacking_asc, derivative_asc}
 use Rattle.rule.proofs.Rule.{papers_rule}
 use Rattle.same.specs.Same.{same_checks, Judged, SameEnds}
 use Rattle.same.proofs.Passing.{passed_if_ascending}
 use Rattle.papers.specs.Together.{four_lists, Tells}
-use Rattle.papers.specs.Steps.{selected, four_selected, Laid, Askable}
-use Rattle.papers.proofs.FourLists.{derivative_selected, at_zero_selected, mixed_selected, other_selected, four_selected_lem, derivative_shorter, lacking_shorter}
+use Rattle.papers.specs.Steps.{selected, Askable}
+use Rattle.papers.proofs.FourLists.{derivative_selected, at_zero_selected, mixed_selected, other_selected, derivative_shorter, lacking_shorter, four_fit}
 
--- ---- the lists as parts of the room
+-- ---- the lists one behind another in the room
 
--- the words from i to j of a room in which p, q and r lie one behind another, p up to i and q up to j
-part_of : (room p q r : List ℕ) (i j : ℕ) → room ≡ p ++ (q ++ r) → i ≡ length p → j ≡ i + length q → take (j - i) (drop i room) ≡ q
-part_of room p q r i j e ei ej =
-    ap (λ l. take (j - i) (drop i l)) e ∙ ap (take (j - i)) (drop_at p (q ++ r) i (sym ei)) ∙ take_at q r (j - i) (omega (arith, ej))
+-- p is taken off the front of the room `old`, as `here`; behind it `rest` is left
+pub record TakenOff (p old here rest : List ℕ) : Type 0 where
+  pub front : here ≡ p
+  pub behind : rest ≡ drop (length p) old
 
-module _ (x y : ℕ) (f old new : List ℕ) (a b c d : ℕ) (other : ¬ (x ≡ y)) (laid : Laid (2 ^ x) (2 ^ y) f old new a b c d) where
-  A : List ℕ
-  A = selected (2 ^ x) (2 ^ x) f
+-- so it is where p was written at the front, and the room was cut at its end
+pub taken_off : (p old new here rest : List ℕ) (end : ℕ) → (end ≡ length p) × (new ≡ over p old) → here ≡ take end new → rest ≡ drop end new
+    → TakenOff p old here rest
+taken_off p old new here rest end (e, written) front behind = record {
+  front = front ∙ ap (take end) written ∙ take_at p (drop (length p) old) end (sym e);
+  behind = behind ∙ ap (drop end) written ∙ drop_at p (drop (length p) old) end (sym e);
+}
 
-  B : List ℕ
-  B = selected (2 ^ x) 0 f
-
-  C : List ℕ
-  C = selected (bit_or (2 ^ x) (2 ^ y)) (bit_or (2 ^ x) (2 ^ y)) f
-
-  D : List ℕ
-  D = selected (bit_or (2 ^ x) (2 ^ y)) (2 ^ y) f
-
-  rest : List ℕ
-  rest = drop (length (four_selected (2 ^ x) (2 ^ y) f)) old
-
-  behind_a : new ≡ A ++ (B ++ (C ++ (D ++ rest)))
-  unfolding A B C D rest four_selected
-  behind_a =
-      laid.stands ∙ append_assoc A (B ++ (C ++ D)) rest ∙ ap (◌++◌ A) (append_assoc B (C ++ D) rest ∙ ap (◌++◌ B) (append_assoc C D rest))
-
-  behind_b : new ≡ (A ++ B) ++ (C ++ (D ++ rest))
-  behind_b = behind_a ∙ sym (append_assoc A B (C ++ (D ++ rest)))
-
-  behind_c : new ≡ ((A ++ B) ++ C) ++ (D ++ rest)
-  behind_c = behind_b ∙ sym (append_assoc (A ++ B) C (D ++ rest))
-
-  end_of_b : b ≡ length (A ++ B)
-  unfolding A B
-  end_of_b = omega (arith, laid.end_a, laid.end_b, length-append A B)
-
-  end_of_c : c ≡ length ((A ++ B) ++ C)
-  unfolding C
-  end_of_c = omega (arith, end_of_b, laid.end_c, length-append (A ++ B) C)
-
-  in_room_a : take (a - 0) (drop 0 new) ≡ derivative x f
-  unfolding A
-  in_room_a = part_of new [] A (B ++ (C ++ (D ++ rest))) 0 a behind_a refl (laid.end_a ∙ sym (zero-add (length A))) ∙ derivative_selected x f
-
-  in_room_b : take (b - a) (drop a new) ≡ lacking x f
-  unfolding A B
-  in_room_b = part_of new A B (C ++ (D ++ rest)) a b behind_a laid.end_a laid.end_b ∙ at_zero_selected x f
-
-  in_room_c : take (c - b) (drop b new) ≡ derivative y (derivative x f)
-  unfolding C
-  in_room_c = part_of new (A ++ B) C (D ++ rest) b c behind_b end_of_b laid.end_c ∙ mixed_selected x y other f
-
-  in_room_d : take (d - c) (drop c new) ≡ derivative y (lacking x f)
-  unfolding D
-  in_room_d = part_of new ((A ++ B) ++ C) D rest c d behind_c end_of_c laid.end_d ∙ other_selected x y other f
+-- with q at the front of the rest, p and q stand at the front of the room
+put_back : (q : List ℕ) {p old here rest now : List ℕ} → TakenOff p old here rest → now ≡ over q rest → here ++ now ≡ over (p ++ q) old
+put_back q {p} {old} {here} {rest} {now} off e =
+    ap₂ ◌++◌ off.front (e ∙ ap (over q) off.behind)
+    ∙ ap (λ (l : List ℕ). p ++ (q ++ l)) (drop-drop (length q) (length p) old)
+    ∙ sym (append_assoc p q (drop (length p + length q) old))
+    ∙ ap (λ (n : ℕ). (p ++ q) ++ drop n old) (sym (length-append p q))
 
 -- ---- lists that pass the checks are judged
 
@@ -107,26 +75,9 @@ judged_if_in_order max n a d b c o la ld lb lc pa pd pb pc h =
     let w = passed_accepts (tt {0}) (Judged n a d b c) (same_checks max a d b c) o (tt {0}) p h in
     subst (λ k. Judged n a d b c k (tt {0})) (sym (ap (λ (x : Answer). x.count) w.1)) w.2
 
--- a yes says that the products are the same, anything else that they are not
-same_if_yes : (n : ℕ) (a d b c : List ℕ) (k : ℕ) → Judged n a d b c k (tt {0}) → k ≡ 1 → SameProducts n a d b c
-same_if_yes n a d b c k (inl j) e = j.1
-same_if_yes n a d b c k (inr j) e = absurd (let z : ⊥ = omega (arith, j.0) in z)
-
-not_same_if_no : (n : ℕ) (a d b c : List ℕ) (k : ℕ) → Judged n a d b c k (tt {0}) → (k ≡ 1 → ⊥) → ¬ SameProducts n a d b c
-not_same_if_no n a d b c k (inl j) e = absurd (e j.0)
-not_same_if_no n a d b c k (inr j) e = j.1
-
 -- ---- the answer
 
--- a variable as a mask
-pub mask_of : (w x : ℕ) → x < w → (1 * 2 ^ x) % 2 ^ w ≡ 2 ^ x
-mask_of w x h = shl_exact 1 x w (omega arith) (omega arith) ∙ one-mul (2 ^ x)
-
--- what is laid out for the masks are the papers' four lists
-pub masks_selected : (w x y : ℕ) (f : List ℕ) → x < w → y < w → ¬ (x ≡ y) → four_selected ((1 * 2 ^ x) % 2 ^ w) ((1 * 2 ^ y) % 2 ^ w) f ≡ four_lists f x y
-masks_selected w x y f hx hy other = ap₂ (λ p q. four_selected p q f) (mask_of w x hx) (mask_of w y hy) ∙ four_selected_lem x y other f
-
-module _ (max n : ℕ) (f : List ℕ) (x y room : ℕ) (ask : Askable max n f x y room) where
+module _ (max n : ℕ) {f : List ℕ} {x y room : ℕ} (ask : Askable max n f x y room) where
   parts_of_list : IsParts f (parts_of f)
   parts_of_list =
       parts_of_is_parts f ask.ascends (λ e. true≢false (sym ask.has_x ∙ ap (λ l. bit (vars l) x) e ∙ ap (λ m. bit m x) vars_nil ∙ bit_zero x))
@@ -137,41 +88,75 @@ module _ (max n : ℕ) (f : List ℕ) (x y room : ℕ) (ask : Askable max n f x 
   rule : (together x y (parts_of f) ≡ false) ↔ PapersSay n f x y
   rule = papers_rule n f (parts_of f) x y parts_of_list all_below ask.has_x ask.has_y ask.other
 
-  module _ (old new : List ℕ) (a b c d px py : ℕ) (ex : px ≡ 2 ^ x) (ey : py ≡ 2 ^ y) (laid : Laid px py f old new a b c d) (said : Answer)
-      (ends : SameEnds max n (take (a - 0) (drop 0 new)) (take (d - c) (drop c new)) (take (b - a) (drop a new)) (take (c - b) (drop b new)) said) where
-    laid_as_powers : Laid (2 ^ x) (2 ^ y) f old new a b c d
-    laid_as_powers = subst (λ p. Laid p (2 ^ y) f old new a b c d) ex (subst (λ q. Laid px q f old new a b c d) ey laid)
+  -- the variables as masks
+  mask_of : (i : ℕ) → i < n → (1 * 2 ^ i) % 2 ^ n ≡ 2 ^ i
+  mask_of i h = shl_exact 1 i n (omega arith) (omega arith) ∙ one-mul (2 ^ i)
 
-    judged : Judged n (derivative x f) (derivative y (lacking x f)) (lacking x f) (derivative y (derivative x f)) said.count (tt {0})
-    judged =
-        let a₁ = derivative_asc x f ask.ascends in
-        let a₀ = lacking_asc x f ask.ascends in
-        judged_if_in_order max n (derivative x f) (derivative y (lacking x f)) (lacking x f) (derivative y (derivative x f)) said
-        (le_trans (derivative_shorter x f) ask.few)
-        (le_trans (derivative_shorter y (lacking x f)) (le_trans (lacking_shorter x f) ask.few))
-        (le_trans (lacking_shorter x f) ask.few)
-        (le_trans (derivative_shorter y (derivative x f)) (le_trans (derivative_shorter x f) ask.few))
-        a₁ (derivative_asc y (lacking x f) a₀) a₀ (derivative_asc y (derivative x f) a₁)
-        (of_equal_lists max n said (take (a - 0) (drop 0 new)) (take (d - c) (drop c new)) (take (b - a) (drop a new)) (take (c - b) (drop b new))
-        (in_room_a x y f old new a b c d ask.other laid_as_powers) (in_room_d x y f old new a b c d ask.other laid_as_powers)
-        (in_room_b x y f old new a b c d ask.other laid_as_powers) (in_room_c x y f old new a b c d ask.other laid_as_powers)
-        ends)
+  abbrev px : ℕ
+  px = (1 * 2 ^ x) % 2 ^ n
 
-    written_so : new ≡ over (four_lists f x y) old
-    written_so = laid_as_powers.stands ∙ ap (λ l. over l old) (four_selected_lem x y ask.other f)
+  abbrev py : ℕ
+  py = (1 * 2 ^ y) % 2 ^ n
 
-    pub apart_if_yes : said.count ≡ 1 → Tells f x y old 0 new
-    apart_if_yes e = (
-      parts_of f,
-      parts_of_list,
-      ap one_if (sym (rule.1 (same_if_yes n (derivative x f) (derivative y (lacking x f)) (lacking x f) (derivative y (derivative x f)) said.count judged e))),
-      written_so,
-    )
+  ex : px ≡ 2 ^ x
+  ex = mask_of x ask.low_x
 
-    pub together_if_no : (said.count ≡ 1 → ⊥) → Tells f x y old 1 new
-    together_if_no e = (parts_of f, parts_of_list, ap one_if (sym (go (together x y (parts_of f)) refl)), written_so)
-      where
-        go : (t : Bool) → together x y (parts_of f) ≡ t → together x y (parts_of f) ≡ true
-        go true t = t
-        go false t =
-            absurd (not_same_if_no n (derivative x f) (derivative y (lacking x f)) (lacking x f) (derivative y (derivative x f)) said.count judged e (rule.0 t))
+  ey : py ≡ 2 ^ y
+  ey = mask_of y ask.low_y
+
+  -- what is selected by them are the papers' four lists,
+  is_a : selected px px f ≡ derivative x f
+  is_a = ap (λ p. selected p p f) ex ∙ derivative_selected x f
+
+  is_b : selected px 0 f ≡ lacking x f
+  is_b = ap (λ p. selected p 0 f) ex ∙ at_zero_selected x f
+
+  is_c : selected (bit_or px py) (bit_or px py) f ≡ derivative y (derivative x f)
+  is_c = ap₂ (λ p q. selected (bit_or p q) (bit_or p q) f) ex ey ∙ mixed_selected x y ask.other f
+
+  is_d : selected (bit_or px py) py f ≡ derivative y (lacking x f)
+  is_d = ap₂ (λ p q. selected (bit_or p q) q f) ex ey ∙ other_selected x y ask.other f
+
+  -- and there is room for them
+  pub four_room : length (selected px px f)
+      + (length (selected px 0 f) + (length (selected (bit_or px py) (bit_or px py) f) + length (selected (bit_or px py) py f))) ≤ room
+  four_room = omega (arith, four_fit f x y, ask.fits, ap length is_a, ap length is_b, ap length is_c, ap length is_d)
+
+  -- four lists taken off the room one after another, and what was said of them
+  pub told : (said : Answer) {old a b c d r₁ r₂ r₃ r₄ : List ℕ} → TakenOff (selected px px f) old a r₁ → TakenOff (selected px 0 f) r₁ b r₂
+      → TakenOff (selected (bit_or px py) (bit_or px py) f) r₂ c r₃ → TakenOff (selected (bit_or px py) py f) r₃ d r₄
+      → SameEnds max n a d b c said → Tells f x y old (from_bool (not (eqb said.count 1))) (a ++ (b ++ (c ++ (d ++ r₄))))
+  unfolding four_lists
+  told said {old} {a} {b} {c} {d} {r₁} {r₂} {r₃} {r₄} off_a off_b off_c off_d ends = (
+    parts_of f,
+    parts_of_list,
+    as_number (not (eqb said.count 1)) ∙ ap one_if (answer said.count judged),
+    put_back _ off_a (put_back _ off_b (put_back _ off_c (ap₂ ◌++◌ off_d.front off_d.behind)))
+        ∙ ap (λ l. over l old) (ap₂ ◌++◌ is_a (ap₂ ◌++◌ is_b (ap₂ ◌++◌ is_c is_d))),
+  )
+    where
+      as_number : (t : Bool) → from_bool t ≡ one_if t
+      as_number true = refl
+      as_number false = refl
+
+      judged : Judged n (derivative x f) (derivative y (lacking x f)) (lacking x f) (derivative y (derivative x f)) said.count (tt {0})
+      judged =
+          let a₁ = derivative_asc x f ask.ascends in
+          let a₀ = lacking_asc x f ask.ascends in
+          judged_if_in_order max n (derivative x f) (derivative y (lacking x f)) (lacking x f) (derivative y (derivative x f)) said
+          (le_trans (derivative_shorter x f) ask.few)
+          (le_trans (derivative_shorter y (lacking x f)) (le_trans (lacking_shorter x f) ask.few))
+          (le_trans (lacking_shorter x f) ask.few)
+          (le_trans (derivative_shorter y (derivative x f)) (le_trans (derivative_shorter x f) ask.few))
+          a₁ (derivative_asc y (lacking x f) a₀) a₀ (derivative_asc y (derivative x f) a₁)
+          (of_equal_lists max n said a d b c (off_a.front ∙ is_a) (off_d.front ∙ is_d) (off_b.front ∙ is_b) (off_c.front ∙ is_c) ends)
+
+      -- no part holds both if the products are the same, and only then
+      answer : (k : ℕ) → Judged n (derivative x f) (derivative y (lacking x f)) (lacking x f) (derivative y (derivative x f)) k (tt {0})
+          → not (eqb k 1) ≡ together x y (parts_of f)
+      answer k (inl (e, same)) = ap not (eq-eqb k 1 e) ∙ sym (rule.1 same)
+      answer k (inr (z, differ)) = ap not (ne_eqb k 1 (λ e. let x : ⊥ = omega arith in x)) ∙ sym (go (together x y (parts_of f)) refl)
+        where
+          go : (t : Bool) → together x y (parts_of f) ≡ t → together x y (parts_of f) ≡ true
+          go true t = t
+          go false t = absurd (differ (rule.0 t))

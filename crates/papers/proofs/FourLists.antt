@@ -3,11 +3,11 @@
 use Prim.Native.Nat.{ℕ, suc, ◌+◌, ◌*◌, ◌^◌, ◌≤◌}
 use mathlib.Core.Path.{◌≡◌, refl, sym, ap, ap₂, ◌∙◌}
 use mathlib.Core.Bool.{Bool, true, false, true≢false}
-use mathlib.Core.List.{List, [], ◌∷◌, ◌++◌, map}
+use mathlib.Core.List.{List, [], ◌∷◌, map}
 use native.Mathlib.Omega.{arith}
 use borrow.Author.Tests.{eq-eqb, ne_eqb}
 use lib.Bits.{bit_and, bit_or, bit_xor, xor_zero_r}
-use lib.ListN.{length, length-append, length-map}
+use lib.ListN.{length, length-map}
 use Rattle.masks.specs.Bit.{bit, without}
 use Rattle.masks.proofs.Bits.{bit_zero, bit_power_same, bit_power_other}
 use Rattle.masks.proofs.Reflect.{identity, ∅, ◌∩◌, ◌∪◌, ◌⊕◌, ◌∖◌, ◌≐◌, ◌⊆◌, apart, ∴◌, ◌⇒◌}
@@ -16,8 +16,7 @@ use Rattle.polys.specs.List.{either}
 use Rattle.ring.specs.Run.{lacking, holding}
 use Rattle.rule.specs.Rule.{derivative}
 use Rattle.rule.proofs.Derivative.{power_apart, kept}
-use Rattle.papers.specs.Together.{four_lists}
-use Rattle.papers.specs.Steps.{selected, four_selected}
+use Rattle.papers.specs.Steps.{selected}
 
 -- one variable lies in a power of two, that is: it is not empty
 power_some : (x : ℕ) → 2 ^ x ≡ 0 → ⊥
@@ -131,12 +130,6 @@ module _ (x y : ℕ) (other : ¬ (x ≡ y)) where
           ∙ later
       go false h later = inner h (bit t y) refl later
 
-  -- what is laid out are the papers' four lists
-  pub four_selected_lem : (f : List ℕ) → four_selected (2 ^ x) (2 ^ y) f ≡ four_lists f x y
-  unfolding four_selected four_lists
-  four_selected_lem f =
-      ap₂ ◌++◌ (derivative_selected x f) (ap₂ ◌++◌ (at_zero_selected x f) (ap₂ ◌++◌ (mixed_selected f) (other_selected f)))
-
 -- ---- they fit
 
 count_both : (i : ℕ) (f : List ℕ) → length (holding i f) + length (lacking i f) ≡ length f
@@ -159,19 +152,6 @@ derivative_shorter i f = omega (arith, halves_length i f)
 pub lacking_shorter : (i : ℕ) (f : List ℕ) → length (lacking i f) ≤ length f
 lacking_shorter i f = omega (arith, halves_length i f)
 
-pub four_fit : (f : List ℕ) (x y : ℕ) → length (four_lists f x y) ≤ 2 * length f
-unfolding four_lists
-four_fit f x y =
-    let a = derivative x f in
-    let b = lacking x f in
-    let c = derivative y a in
-    let d = derivative y b in
-    omega (
-      arith,
-      halves_length x f,
-      halves_length y a,
-      halves_length y b,
-      length-append a (b ++ (c ++ d)),
-      length-append b (c ++ d),
-      length-append c d,
-    )
+pub four_fit : (f : List ℕ) (x y : ℕ) → length (derivative x f)
+    + (length (lacking x f) + (length (derivative y (derivative x f)) + length (derivative y (lacking x f)))) ≤ 2 * length f
+four_fit f x y = omega (arith, halves_length x f, halves_length y (derivative x f), halves_length y (lacking x f))

@@ -1,20 +1,18 @@
--- Selecting terms one after the other, and lists written one behind another. Leans on the laws of a list written behind a front.
+-- Selecting terms one after the other, each written behind those before it at the start of the room. Assumes nothing.
 use Prim.Native.Nat.{ℕ, suc, ◌+◌, ◌≤◌, ◌<◌}
 use mathlib.Core.Path.{◌≡◌, refl, sym, ap, ap₂, ◌∙◌}
 use mathlib.Core.Bool.{Bool, true, false}
 use mathlib.Core.List.{List, [], ◌∷◌, ◌++◌, append-nil, append_assoc}
 use native.Mathlib.Omega.{arith}
-use native.Mathlib.Nat.{add-zero, zero-add}
 use native.Mathlib.Numerals.{add-one}
 use borrow.Author.Tests.{eq-eqb, ne_eqb}
 use lib.Bits.{bit_and, bit_xor}
 use lib.Dec.{eqb}
-use lib.ListN.{length, get_or, take, drop, set, length-set, length-append, take-append-drop}
-use lib.Seq.{take-suc, drop-cons, drop-drop, take-append_seam, drop-append-add}
+use lib.ListN.{length, get_or, take, drop, set, length-append, take-append-drop}
+use lib.Seq.{take-suc, drop-cons, set_at}
 use Rattle.polys.specs.List.{either}
-use Rattle.papers.proofs.Written.{written_none, written_one_more}
 use Rattle.answer.specs.Ends.{over}
-use Rattle.papers.specs.Steps.{written, selected}
+use Rattle.papers.specs.Steps.{selected}
 
 module _ (fixed value : ℕ) where
   selected_append : (a b : List ℕ) → selected fixed value (a ++ b) ≡ selected fixed value a ++ selected fixed value b
@@ -58,60 +56,52 @@ module _ (fixed value : ℕ) where
         in
         omega (arith, ap length all, length-append front (next ++ rest), length-append next rest, ap length (next_taken e))
 
--- where the selecting stands after the first i terms of l: those selected stand in `out` from the place `at` on and end at `end`
-pub record Selecting (l out₀ : List ℕ) (at fixed value : ℕ) (out : List ℕ) (end i : ℕ) : Type 0 where
-  pub ends : end ≡ at + length (selected fixed value (take i l))
-  pub stands : out ≡ written out₀ at (selected fixed value (take i l))
-  pub same : length out ≡ length out₀
+-- a list at the start of the room, and one word more
+over_one_more : (p d : List ℕ) (v : ℕ) → length p < length d → set (over p d) (length p) v ≡ over (p ++ (v ∷ [])) d
+over_one_more p d v h =
+    let n = length p in
+    let more : length (p ++ (v ∷ [])) ≡ suc n = omega (arith, length-append p (v ∷ [])) in
+    ap (λ (l : List ℕ). set (p ++ l) n v) (drop-cons d n 0 h)
+    ∙ set_at p (get_or d n 0) (drop (suc n) d) v n refl
+    ∙ sym (append_assoc p (v ∷ []) (drop (suc n) d))
+    ∙ ap (λ (j : ℕ). (p ++ (v ∷ [])) ++ drop j d) (sym more)
 
-pub selecting_none : (l out : List ℕ) (at fixed value : ℕ) → at ≤ length out → Selecting l out at fixed value out at 0
+-- where the selecting stands after the first i terms of l: those selected stand at the start of the room, and `end` counts them
+pub record Selecting (fixed value : ℕ) (l old : List ℕ) (i : ℕ) (room : List ℕ) (end : ℕ) : Type 0 where
+  pub counted : end ≡ length (selected fixed value (take i l))
+  pub stands : room ≡ over (selected fixed value (take i l)) old
+
+pub selecting_none : (fixed value : ℕ) (l room : List ℕ) → Selecting fixed value l room 0 room 0
 unfolding selected
-selecting_none l out at fixed value h = record { ends = sym (add-zero at); stands = written_none out at h; same = refl }
+selecting_none fixed value l room = record { counted = refl; stands = refl }
 
-module _ (l out₀ : List ℕ) (at fixed value : ℕ) (out : List ℕ) (end i : ℕ) (s : Selecting l out₀ at fixed value out end i) (h : i < length l)
-    (fits : at + length (selected fixed value l) ≤ length out₀) where
+module _ (fixed value : ℕ) (l old : List ℕ) (i : ℕ) (room : List ℕ) (end : ℕ) (s : Selecting fixed value l old i room end) (h : i < length l)
+    (fits : length (selected fixed value l) ≤ length old) where
   -- there is room for a term that is selected
-  pub room_for_one : bit_and (get_or l i 0) fixed ≡ value → end < length out
-  room_for_one e = omega (arith, s.ends, s.same, has_its_place fixed value l i h e)
+  pub room_for_one : bit_and (get_or l i 0) fixed ≡ value → end < length old
+  room_for_one e = omega (arith, s.counted, has_its_place fixed value l i h e)
 
   pub selecting_taken : bit_and (get_or l i 0) fixed ≡ value
-      → Selecting l out₀ at fixed value (set out end (bit_xor (get_or l i 0) value)) (end + 1) (i + 1)
+      → Selecting fixed value l old (i + 1) (set room end (bit_xor (get_or l i 0) value)) (end + 1)
   selecting_taken e =
       let now = selected fixed value (take i l) in
       let v = bit_xor (get_or l i 0) value in
       let more : selected fixed value (take (i + 1) l) ≡ now ++ (v ∷ []) = selected_next fixed value l i h ∙ ap (◌++◌ now) (next_taken fixed value l i h e) in
       record {
-        ends = omega (arith, s.ends, ap length more, length-append now (v ∷ []));
+        counted = omega (arith, s.counted, ap length more, length-append now (v ∷ []));
         stands =
-            ap (λ (o : List ℕ). set o end v) s.stands
-            ∙ ap (λ (j : ℕ). set (written out₀ at now) j v) s.ends
-            ∙ written_one_more out₀ at now v (omega (arith, has_its_place fixed value l i h e))
-            ∙ ap (written out₀ at) (sym more);
-        same = length-set out end v ∙ s.same;
+            ap₂ (λ (r : List ℕ) (j : ℕ). set r j v) s.stands s.counted
+            ∙ over_one_more now old v (omega (arith, s.counted, room_for_one e))
+            ∙ ap (λ (k : List ℕ). over k old) (sym more);
       }
 
-  pub selecting_left : (bit_and (get_or l i 0) fixed ≡ value → ⊥) → Selecting l out₀ at fixed value out end (i + 1)
+  pub selecting_left : (bit_and (get_or l i 0) fixed ≡ value → ⊥) → Selecting fixed value l old (i + 1) room end
   selecting_left e =
       let now = selected fixed value (take i l) in
       let same_now : selected fixed value (take (i + 1) l) ≡ now =
       selected_next fixed value l i h ∙ ap (◌++◌ now) (next_left fixed value l i h e) ∙ append-nil now
       in
       record {
-        ends = s.ends ∙ ap (λ (k : List ℕ). at + length k) (sym same_now);
-        stands = s.stands ∙ ap (written out₀ at) (sym same_now);
-        same = s.same;
+        counted = s.counted ∙ ap length (sym same_now);
+        stands = s.stands ∙ ap (λ (k : List ℕ). over k old) (sym same_now);
       }
-
--- ---- lists written one behind another
-
--- q written behind p is p and q written
-pub written_behind : (p q d : List ℕ) (at : ℕ) → at ≡ length p → written (over p d) at q ≡ over (p ++ q) d
-written_behind p q d at e =
-    ap (λ (k : ℕ). written (over p d) k q) e
-    ∙ ap₂ (λ (u v : List ℕ). u ++ (q ++ v)) (take-append_seam p (drop (length p) d)) (drop-append-add p (drop (length p) d) (length q) ∙ drop-drop (length q) (length p) d)
-    ∙ sym (append_assoc p q (drop (length p + length q) d))
-    ∙ ap (λ (k : ℕ). (p ++ q) ++ drop k d) (sym (length-append p q))
-
--- written from the start
-pub written_first : (q d : List ℕ) → written d 0 q ≡ over q d
-written_first q d = ap (λ (k : ℕ). q ++ drop k d) (zero-add (length q))

@@ -1,218 +1,145 @@
 // Compares, for every two different variables of a list, what the papers' rule answers with what split gives: whether they lie in one part.
 // A line for each list: its terms, the pairs asked about, how many of them lie in one part by split, and on how many the two ways differ; a pair
-// on which they differ is printed before it. Then what is refused, with the room after each question.
+// on which they differ is printed before it. Then what is refused, with the room after each question. What cannot be written is passed
+// over: the program has no status of its own.
 #![tactic(auto)]
 
 ghost use Rattle.std.specs.Prelude.{◌<◌};
 
+use answer::Answer;
+use narrow::Narrow;
+use parts::Outputs;
+use show::{Out, Words, fill};
+use std::fmt::{self, Write};
 use terms::TermList;
 
-// The number of standard output.
-const STDOUT: i32 = 1;
-
 // What was counted: pairs asked about, those in one part, those where the two ways differ.
+#[derive(Clone, Copy, Default)]
+struct Tally {
+    pairs: u64,
+    one: u64,
+    differ: u64,
+}
+
+impl Tally {
+    // One more pair: whether split has it in one part, and whether the papers' rule says otherwise.
+    fn count(&mut self, one: bool, differ: bool) {
+        self.pairs = self.pairs.wrapping_add(1);
+        self.one = self.one.wrapping_add(u64::from(one));
+        self.differ = self.differ.wrapping_add(u64::from(differ));
+    }
+}
+
+// As it stands behind what the lists are, `, pairs 2, in one part 2, differ 0`.
+impl fmt::Display for Tally {
+    fn fmt<W: fmt::Write>(&self, f: &mut fmt::Formatter<W>) -> fmt::Result {
+        let Tally { pairs, one, differ } = *self;
+        write!(f, ", pairs {pairs}, in one part {one}, differ {differ}")
+    }
+}
+
+// An equation and its parts, as split writes them: the terms of one behind those of another, and how many each has.
 #[derive(Clone, Copy)]
-pub struct Tally {
-    pub pairs: u64,
-    pub one: u64,
-    pub differ: u64,
+struct Parts<'a> {
+    list: &'a [u64],
+    terms: &'a [u64],
+    lengths: &'a [u64],
 }
 
-fn text(t: &[u8]) {
-    io::write_all(STDOUT, t);
-}
-
-fn number(n: u64) {
-    io::print_decimal(STDOUT, n);
-}
-
-// The number, from 0, of the part that holds the variable; or the number of parts.
-fn part_with(part_terms: &[u64], part_lengths: &[u64], count: usize, x: u64) -> usize {
-    let mut at = 0;
-    let mut i = 0;
-    while i < count {
-        if part_lengths.len() <= i {
-            return count;
+impl Parts<'_> {
+    // The number, from 0, of the part that holds the variable.
+    fn part_with(self, x: u64) -> Option<usize> {
+        let mut rest = self.terms;
+        for (i, length) in self.lengths.iter().enumerate() {
+            let (part, behind) = rest.split_at_checked(*length as usize)?;
+            if papers::occurs(TermList::of(part).vars.bits, x) {
+                return Some(i);
+            }
+            rest = behind;
         }
-        let length = part_lengths[i] as usize;
-        if part_terms.len() - at < length {
-            return count;
+        None
+    }
+
+    // One more pair, of which split says whether it lies in one part.
+    fn ask(self, x: u64, y: u64, one: bool, tally: &mut Tally) {
+        let mut room = [0; 2 * TermList::MAX_TERMS];
+        let said = papers::together(self.list, x, y, &mut room);
+        let differ = said != Ok(u64::from(one));
+        if differ {
+            let Answer { code, count, .. } = Answer::from(said);
+            let _ = writeln!(
+                Out,
+                "differ: x{x} x{y}, papers say code {code} count {count}"
+            );
         }
-        let end = at + length;
-        let own = terms::variables(&part_terms[at..end]);
-        if papers::occurs(own.bits, x) {
-            return i;
+        tally.count(one, differ);
+    }
+
+    // Every other variable against x, whose part is a.
+    fn row(self, x: u64, a: usize, tally: &mut Tally) {
+        for y in 0..TermList::MAX_VARS as u64 {
+            if let Some(b) = self.part_with(y)
+                && x != y
+            {
+                self.ask(x, y, a == b, tally);
+            }
         }
-        at = end;
-        i += 1;
     }
-    count
-}
 
-// A pair on which the two ways differ, and what the papers' rule answered.
-fn print_difference(x: u64, y: u64, code: u64, count: u64) {
-    text(b"differ: x");
-    number(x);
-    text(b" x");
-    number(y);
-    text(b", papers say code ");
-    number(code);
-    text(b" count ");
-    number(count);
-    text(b"\n");
-}
-
-// One more pair, if both are variables and different; a is x's part and b is y's.
-fn ask(
-    list: &[u64],
-    x: u64,
-    y: u64,
-    a: usize,
-    b: usize,
-    count: usize,
-    room: &mut [u64],
-    tally: Tally,
-) -> Tally {
-    if count <= a {
-        return tally;
+    // Every two different variables of the parts.
+    fn all_pairs(self, tally: &mut Tally) {
+        for x in 0..TermList::MAX_VARS as u64 {
+            if let Some(a) = self.part_with(x) {
+                self.row(x, a, tally);
+            }
+        }
     }
-    if count <= b {
-        return tally;
-    }
-    if x == y {
-        return tally;
-    }
-    let said = answer::numbers(papers::together(list, x, y, room));
-    let mut one = 0u64;
-    if a == b {
-        one = 1;
-    }
-    let mut differ = 0u64;
-    if said.code != 0 {
-        differ = 1;
-    }
-    if said.count != one {
-        differ = 1;
-    }
-    if differ == 1 {
-        print_difference(x, y, said.code, said.count);
-    }
-    Tally {
-        pairs: std::num::wrapping_add_u64(tally.pairs, 1),
-        one: std::num::wrapping_add_u64(tally.one, one),
-        differ: std::num::wrapping_add_u64(tally.differ, differ),
-    }
-}
-
-// Every y against one x, whose part is a.
-fn row(
-    list: &[u64],
-    part_terms: &[u64],
-    part_lengths: &[u64],
-    count: usize,
-    x: u64,
-    a: usize,
-    room: &mut [u64],
-    start: Tally,
-) -> Tally {
-    let mut tally = start;
-    let mut y = 0u64;
-    while y < 64 {
-        let b = part_with(part_terms, part_lengths, count, y);
-        tally = ask(list, x, y, a, b, count, room, tally);
-        y += 1;
-    }
-    tally
-}
-
-// Every two different variables of the parts that split has written.
-fn all_pairs(
-    list: &[u64],
-    part_terms: &[u64],
-    part_lengths: &[u64],
-    count: usize,
-    room: &mut [u64],
-    start: Tally,
-) -> Tally {
-    let mut tally = start;
-    let mut x = 0u64;
-    while x < 64 {
-        let a = part_with(part_terms, part_lengths, count, x);
-        tally = row(list, part_terms, part_lengths, count, x, a, room, tally);
-        x += 1;
-    }
-    tally
-}
-
-fn print_tally(tally: Tally) {
-    text(b", pairs ");
-    number(tally.pairs);
-    text(b", in one part ");
-    number(tally.one);
-    text(b", differ ");
-    number(tally.differ);
-    text(b"\n");
 }
 
 // Splits a list, asks about all its pairs, and adds them to the tally.
-fn measure(list: &[u64], start: Tally) -> Tally {
-    let mut part_terms = [0u64; TermList::MAX_TERMS + TermList::MAX_VARS];
-    let mut part_lengths = [0u64; TermList::MAX_VARS];
-    let mut work = [0u64; 4 * TermList::MAX_TERMS];
-    let mut room = [0u64; 2 * TermList::MAX_TERMS];
-    let ended = answer::numbers(parts::split(list, &mut part_terms, &mut part_lengths, &mut work));
-    all_pairs(
-        list,
-        &part_terms,
-        &part_lengths,
-        ended.count as usize,
-        &mut room,
-        start,
-    )
+fn measure(list: &[u64], tally: &mut Tally) {
+    let mut terms = [0; TermList::MAX_TERMS + TermList::MAX_VARS];
+    let mut lengths = [0; TermList::MAX_VARS];
+    let mut work = [0; 4 * TermList::MAX_TERMS];
+    let mut outputs = Outputs {
+        terms: &mut terms,
+        lengths: &mut lengths,
+        work: &mut work,
+    };
+    if let Ok(count) = parts::split::<Narrow>(list, &mut outputs)
+        && let Some(lengths) = lengths.get(..count as usize)
+    {
+        let terms = &terms;
+        let parts = Parts {
+            list,
+            terms,
+            lengths,
+        };
+        parts.all_pairs(tally);
+    }
 }
 
 // A line for one list.
 fn compare(list: &[u64]) {
-    let none = Tally {
-        pairs: 0,
-        one: 0,
-        differ: 0,
-    };
-    text(b"terms ");
-    number(list.len() as u64);
-    print_tally(measure(list, none));
-}
-
-// The same of the first t words. Lists are handed over as they are and not lent, which costs the check far less.
-fn compare_first(t: usize, words: [u64; 6]) {
-    if t <= 6 {
-        compare(&words[0..t]);
-    }
+    let mut tally = Tally::default();
+    measure(list, &mut tally);
+    let _ = writeln!(Out, "terms {}{tally}", list.len());
 }
 
 // The lists of RULES 7.1 that have variables, and some more with x or x + 1 among the factors.
 fn small() {
-    compare_first(1, [1, 0, 0, 0, 0, 0]);
-    compare_first(2, [0, 1, 0, 0, 0, 0]);
-    compare_first(1, [3, 0, 0, 0, 0, 0]);
-    compare_first(2, [0, 3, 0, 0, 0, 0]);
-    compare_first(3, [0, 1, 2, 0, 0, 0]);
-    compare_first(4, [1, 2, 5, 6, 0, 0]);
-    compare_first(4, [6, 7, 12, 13, 0, 0]);
-    compare_first(6, [4, 7, 12, 15, 16, 19]);
-    compare_first(2, [1, 3, 0, 0, 0, 0]);
-    compare_first(4, [0, 1, 2, 3, 0, 0]);
-    compare_first(4, [0, 3, 5, 6, 0, 0]);
-    compare_first(1, [18446744073709551615, 0, 0, 0, 0, 0]);
-}
-
-// Puts into each place its index.
-fn count_up(list: &mut [u64]) {
-    let mut i = 0;
-    while i < list.len() {
-        list[i] = i as u64;
-        i += 1;
-    }
+    compare(&[1]);
+    compare(&[0, 1]);
+    compare(&[3]);
+    compare(&[0, 3]);
+    compare(&[0, 1, 2]);
+    compare(&[1, 2, 5, 6]);
+    compare(&[6, 7, 12, 13]);
+    compare(&[4, 7, 12, 15, 16, 19]);
+    compare(&[1, 3]);
+    compare(&[0, 1, 2, 3]);
+    compare(&[0, 3, 5, 6]);
+    compare(&[u64::MAX]);
 }
 
 // The bits of i below 10, each moved to twice its place.
@@ -225,19 +152,19 @@ fn spread(i: u64) -> u64 {
 
 // The product of ten sums of two variables: each index chooses one of each two.
 fn choose(list: &mut [u64]) {
-    let mut i = 0;
-    while i < list.len() {
-        list[i] = std::num::wrapping_add_u64(spread(i as u64), 349525);
-        i += 1;
+    for (i, term) in list.iter_mut().enumerate() {
+        *term = spread(i as u64).wrapping_add(349525);
     }
 }
 
 // A thousand terms: all terms in ten variables, all but the last, and the product of ten sums.
 fn large() {
-    let mut list = [0u64; 1024];
-    count_up(&mut list);
+    let mut list = [0; 1024];
+    fill(&mut list, 0);
     compare(&list);
-    compare(&list[0..1023]);
+    if let Some((_, others)) = list.split_last() {
+        compare(others);
+    }
     choose(&mut list);
     compare(&list);
 }
@@ -255,123 +182,87 @@ fn scatter(list: &mut [u64], seed: u64, mask: u64, shift: u64)
 {
     let mut last = 0u64;
     let mut now = seed;
-    let mut i = 0;
-    while i < list.len() {
+    for term in list.iter_mut() {
         now = next(now);
-        last = std::num::wrapping_add_u64(last, now & mask);
-        list[i] = last << shift;
-        last = std::num::wrapping_add_u64(last, 1);
-        i += 1;
+        last = last.wrapping_add(now & mask);
+        *term = last << shift;
+        last = last.wrapping_add(1);
     }
 }
 
 // A list of six terms in about six variables.
-fn sparse(seed: u64, start: Tally) -> Tally {
-    let mut list = [0u64; 6];
+fn sparse(seed: u64, tally: &mut Tally) {
+    let mut list = [0; 6];
     scatter(&mut list, seed, 15, 0);
-    measure(&list, start)
+    measure(&list, tally);
 }
 
 // A list of twelve terms in about five variables.
-fn dense(seed: u64, start: Tally) -> Tally {
-    let mut list = [0u64; 12];
+fn dense(seed: u64, tally: &mut Tally) {
+    let mut list = [0; 12];
     scatter(&mut list, seed, 3, 0);
-    measure(&list, start)
+    measure(&list, tally);
 }
 
 // A product of three terms in low variables with four terms in high ones.
-fn composed(seed: u64, start: Tally) -> Tally {
-    let mut low = [0u64; 3];
-    let mut high = [0u64; 4];
-    let mut list = [0u64; 12];
+fn composed(seed: u64, tally: &mut Tally) {
+    let mut low = [0; 3];
+    let mut high = [0; 4];
+    let mut list = [0; 12];
     scatter(&mut low, seed, 3, 0);
     scatter(&mut high, next(next(seed)), 7, 5);
-    let made = product::multiply(&low, &high, &mut list);
-    measure(&list, start)
+    let _ = product::multiply::<Narrow>(&low, &high, &mut list);
+    measure(&list, tally);
 }
 
-// A list of each kind.
-fn kinds(seed: u64, start: Tally) -> Tally {
-    composed(seed, dense(seed, sparse(seed, start)))
-}
-
+// So many lists of each kind.
 fn random(lists: u64) {
-    let mut tally = Tally {
-        pairs: 0,
-        one: 0,
-        differ: 0,
-    };
+    let mut tally = Tally::default();
     let mut seed = 88172645463325252u64;
-    let mut i = 0;
-    while i < lists {
+    for _ in 0..lists {
         seed = next(seed);
-        tally = kinds(seed, tally);
-        i += 1;
+        sparse(seed, &mut tally);
+        dense(seed, &mut tally);
+        composed(seed, &mut tally);
     }
-    text(b"random, ");
-    number(lists);
-    text(b" of each kind");
-    print_tally(tally);
+    let _ = writeln!(Out, "random, {lists} of each kind{tally}");
 }
 
-fn print_words(words: &[u64]) {
-    let mut i = 0;
-    while i < words.len() {
-        text(b" ");
-        number(words[i]);
-        i += 1;
-    }
-}
-
-// The four numbers of one question, and the room after it.
-fn question(list: &[u64], x: u64, y: u64, room: &mut [u64]) {
-    let said = answer::numbers(papers::together(list, x, y, room));
-    text(b"code ");
-    number(said.code);
-    text(b" operand ");
-    number(said.operand);
-    text(b" place ");
-    number(said.place);
-    text(b" count ");
-    number(said.count);
-    text(b" |");
-    print_words(room);
-    text(b"\n");
-}
-
-// A question with a room of six words, each 9.
-fn ask_with_six(list: &[u64], x: u64, y: u64) {
-    let mut room = [9u64; 6];
-    question(list, x, y, &mut room);
-}
-
-// The same of the first t words, handed over as they are.
-fn ask_of_first(t: usize, words: [u64; 4], x: u64, y: u64) {
-    if t <= 4 {
-        ask_with_six(&words[0..t], x, y);
-    }
+// The four numbers of one question with a room of six words, each 9, and the room after it.
+fn question(list: &[u64], x: u64, y: u64) {
+    let mut room = [9; 6];
+    let said = Answer::from(papers::together(list, x, y, &mut room));
+    let _ = writeln!(
+        Out,
+        "code {} operand {} place {} count {} |{}",
+        said.code,
+        said.operand,
+        said.place,
+        said.count,
+        Words(&room)
+    );
 }
 
 // A list that is too long.
 fn too_many() {
-    let mut many = [0u64; 1025];
-    count_up(&mut many);
-    ask_with_six(&many, 0, 1);
+    let mut many = [0; 1025];
+    fill(&mut many, 0);
+    question(&many, 0, 1);
 }
 
 // What is refused, in the order of the checks, and two questions that are not.
 fn endings() {
     too_many();
-    ask_of_first(2, [2, 1, 0, 0], 0, 64);
-    ask_of_first(2, [1, 2, 0, 0], 2, 2);
-    ask_of_first(2, [1, 2, 0, 0], 0, 64);
-    ask_of_first(0, [0, 0, 0, 0], 0, 1);
-    ask_of_first(4, [1, 2, 4, 8], 1, 1);
-    ask_of_first(4, [1, 2, 4, 8], 0, 1);
-    ask_of_first(2, [1, 2, 0, 0], 0, 1);
-    ask_of_first(3, [1, 2, 3, 0], 1, 0);
-    ask_of_first(3, [0, 1, 3, 0], 0, 1);
-    ask_of_first(2, [2, 3, 0, 0], 0, 1);
+    question(&[2, 1], 0, 64);
+    question(&[1, 2], 2, 2);
+    question(&[1, 2], 0, 64);
+    question(&[], 0, 1);
+    question(&[1, 2, 4, 8], 1, 1);
+    question(&[1, 2, 4, 8], 0, 1);
+    question(&[1, 2], 0, 1);
+    question(&[1, 2, 3], 1, 0);
+    question(&[0, 1, 3], 0, 1);
+    question(&[2, 3], 0, 1);
 }
 
 fn main() {

@@ -2,50 +2,23 @@
 -- Assumes nothing.
 use Prim.Native.Nat.{ℕ, ◌+◌, ◌*◌, ◌^◌, ◌≤◌, ◌<◌}
 use mathlib.Core.Path.{◌≡◌, refl, sym, ap, ap₂, ◌∙◌, subst}
-use mathlib.Core.List.{List, [], ◌∷◌, map}
+use mathlib.Core.List.{List, map}
 use native.Mathlib.Omega.{arith}
 use borrow.Author.Tests.{ltb-false, eqb-false}
 use lib.Bits.{bit_and, and_le_r}
-use lib.Dec.{ltb, eqb}
 use lib.ListN.{length, get_or, take, drop, replicate, length-map}
 use lib.Seq.{take_at}
-use Rattle.answer.specs.declared.Answer.{Answer}
-use Rattle.answer.specs.Ends.{Check, check, over}
-use Rattle.answer.specs.Checked.{Passed, Checked}
+use Rattle.answer.specs.Ends.{over}
+use Rattle.answer.specs.Checked.{Passed}
 use Rattle.masks.specs.Bit.{without}
 use Rattle.polys.specs.List.{Mem, Asc}
 use Rattle.polys.specs.Poly.{vars}
 use Rattle.polys.proofs.Lists.{at_mem}
 use Rattle.splitting.proofs.Held.{held, stripped_ascends, stripped_free, held_stripped}
 use Rattle.polys.specs.Parts.{IsParts}
-use Rattle.terms.specs.Order.{unordered}
 use Rattle.terms.proofs.Order.{ascends_if_passed}
 use Rattle.parts.specs.Split.{split_checks, Splits}
 use Rattle.taking.specs.Steps.{InEach, Written}
-
--- the checks by the number of terms that was counted,
-abbrev pub checks_by : ℕ → ℕ → List ℕ → ℕ → ℕ → ℕ → ℕ → List Check
-checks_by max_terms max_vars f t terms lengths work =
-    check (ltb max_terms t) 2 1 0
-    ∷ check (eqb t 0) 1 1 0
-    ∷ check (ltb (unordered f) t) 3 1 (unordered f)
-    ∷ check (ltb terms (t + max_vars)) 6 1 0
-    ∷ check (ltb lengths max_vars) 6 1 0
-    ∷ check (ltb work (4 * t)) 7 1 0
-    ∷ []
-
--- are those of the list,
-pub terms_counted : (max_terms max_vars : ℕ) (f : List ℕ) (t terms lengths work : ℕ) (answer : Answer) → t ≡ length f
-    → Checked (checks_by max_terms max_vars f t terms lengths work) answer → Checked (split_checks max_terms max_vars f terms lengths work) answer
-terms_counted max_terms max_vars f t terms lengths work answer e =
-    subst (λ (n : ℕ). Checked (checks_by max_terms max_vars f n terms lengths work) answer) e
-
--- and the rooms that were counted are those that were lent
-pub rooms_counted : (max_terms max_vars : ℕ) (f : List ℕ) (found terms lengths found' work : ℕ) (answer : Answer) → found ≡ terms → found' ≡ work
-    → Checked (split_checks max_terms max_vars f found lengths found') answer → Checked (split_checks max_terms max_vars f terms lengths work) answer
-rooms_counted max_terms max_vars f found terms lengths found' work answer et ew c =
-    subst (λ (n : ℕ). Checked (split_checks max_terms max_vars f terms lengths n) answer) ew
-    (subst (λ (n : ℕ). Checked (split_checks max_terms max_vars f n lengths found') answer) et c)
 
 -- what each index tells of a term, each term does
 each_term : (c : ℕ) (f : List ℕ) → InEach c f → (t : ℕ) → Mem f t → bit_and c t ≡ c

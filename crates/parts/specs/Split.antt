@@ -23,6 +23,14 @@ split_checks max_terms max_vars f terms lengths work =
     ∷ check (ltb work (4 * length f)) 7 1 0
     ∷ []
 
+-- the last three of them, where the list has t terms: there is room for the parts' terms, for their lengths and for the work
+abbrev pub room_checks : ℕ → ℕ → ℕ → ℕ → ℕ → List Check
+room_checks max_vars t terms lengths work =
+    check (ltb terms (t + max_vars)) 6 1 0
+    ∷ check (ltb lengths max_vars) 6 1 0
+    ∷ check (ltb work (4 * t)) 7 1 0
+    ∷ []
+
 -- what acceptance means: the parts of f are counted, they and their lengths stand at the start of their buffers, and every word of the work area is 0
 abbrev pub Splits : List ℕ → Buffers → ℕ → Buffers → Type 0
 Splits f old count new =

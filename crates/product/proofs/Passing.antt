@@ -9,8 +9,7 @@ use borrow.Author.Tests.{ltb-false}
 use lib.ListN.{length, take, drop}
 use lib.Seq.{length-take-le}
 use Rattle.answer.specs.Ends.{over, Writes}
-use Rattle.answer.specs.declared.Answer.{Answer}
-use Rattle.answer.specs.Checked.{Passed, Checked}
+use Rattle.answer.specs.Checked.{Passed}
 use Rattle.answer.proofs.Checking.{equal_if_passed}
 use Rattle.polys.specs.List.{Asc}
 use Rattle.polys.specs.Poly.{times, Apart}
@@ -91,8 +90,3 @@ module _ (most : ℕ) (a b out : List ℕ) (p : Passed (multiply_checks most a b
       empty : (l : List ℕ) → length l ≡ 0 → l ≡ []
       empty [] e = refl
       empty (x ∷ l) e = absurd (let c : ⊥ = omega arith in c)
-
--- the room that was counted is the room that was lent
-pub room_counted : (most : ℕ) (a b : List ℕ) (found room : ℕ) (answer : Answer) → found ≡ room
-    → Checked (multiply_checks most a b found) answer → Checked (multiply_checks most a b room) answer
-room_counted most a b found room answer e = subst (λ (n : ℕ). Checked (multiply_checks most a b n) answer) e

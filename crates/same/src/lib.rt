@@ -2,87 +2,47 @@
 // test of crate cross answers. Nothing is written.
 #![tactic(auto)]
 
-ghost use Rattle.std.specs.Prelude.{◌≡◌};
-ghost use Rattle.answer.specs.Table.{numbers_of};
+ghost use Rattle.std.specs.Prelude.{◌↔◌, IsTrue, [], ◌∷◌, ltb, length};
+ghost use Rattle.answer.specs.Table.{numbers_of, verdict_of};
+ghost use Rattle.answer.specs.Ends.{check};
 ghost use Rattle.answer.specs.Checked.{Passed, Checked};
-ghost use Rattle.narrow.specs.Numbers.{numbers};
-ghost use Rattle.same.specs.Same.{same_checks, Judged, SameEnds};
+ghost use Rattle.terms.specs.Order.{unordered};
+ghost use Rattle.ring.specs.Same.{SameProducts};
+ghost use Rattle.same.specs.Same.{same_checks, SameEnds};
 
-use answer::Outcome;
+use answer::{Outcome, Refusal};
+use term::Term;
 use terms::TermList;
 
 // Whether AD = BC: count 1 for yes, 0 for no. The operands are A, D, B, C, in this order.
-pub fn same_products(a: &[u64], d: &[u64], b: &[u64], c: &[u64]) -> Outcome
-    ensures { SameEnds TermList.MAX_TERMS TermList.MAX_VARS (numbers a.now) (numbers d.now) (numbers b.now) (numbers c.now) (numbers_of result) }
+#[tactic(auto, using(answer::proofs::Checking::calling))]
+pub fn same_products<T: Term>(a: &[u64], d: &[u64], b: &[u64], c: &[u64]) -> Outcome
+    ensures { SameEnds TermList.MAX_TERMS T.LINES (T.numbers a.now) (T.numbers d.now) (T.numbers b.now) (T.numbers c.now) (numbers_of result) }
 {
-    let verdict = checks(a, d, b, c);
-    if answer::refuses(verdict) {
-        return verdict;
-    }
-    let count = judge(a, d, b, c);
-    Outcome::Done { count }
+    checks::<T>(a, d, b, c)?;
+    let equal = judge::<T>(a, d, b, c);
+    Ok(u64::from(equal))
 }
 
 // What is refused, in the order of the rules.
-fn checks(a: &[u64], d: &[u64], b: &[u64], c: &[u64]) -> Outcome
-    ensures { Checked (same_checks TermList.MAX_TERMS (numbers a.now) (numbers d.now) (numbers b.now) (numbers c.now)) (numbers_of result) }
+#[tactic(auto, unfolding(answer::specs::Checked::Checked), using(answer::proofs::Checking::came))]
+fn checks<T: Term>(a: &[u64], d: &[u64], b: &[u64], c: &[u64]) -> Result<(), Refusal>
+    ensures { Checked (same_checks TermList.MAX_TERMS (T.numbers a.now) (T.numbers d.now) (T.numbers b.now) (T.numbers c.now)) (verdict_of result) }
 {
-    let in_a = narrow::count(a);
-    if TermList::MAX_TERMS < in_a {
-        return Outcome::TooMany { operand: 1 };
-    }
-    let in_d = narrow::count(d);
-    if TermList::MAX_TERMS < in_d {
-        return Outcome::TooMany { operand: 2 };
-    }
-    let in_b = narrow::count(b);
-    if TermList::MAX_TERMS < in_b {
-        return Outcome::TooMany { operand: 3 };
-    }
-    let in_c = narrow::count(c);
-    if TermList::MAX_TERMS < in_c {
-        return Outcome::TooMany { operand: 4 };
-    }
-    let i = terms::first_unordered(a);
-    if i < in_a {
-        return Outcome::Order {
-            operand: 1,
-            place: i as u64,
-        };
-    }
-    let j = terms::first_unordered(d);
-    if j < in_d {
-        return Outcome::Order {
-            operand: 2,
-            place: j as u64,
-        };
-    }
-    let m = terms::first_unordered(b);
-    if m < in_b {
-        return Outcome::Order {
-            operand: 3,
-            place: m as u64,
-        };
-    }
-    let n = terms::first_unordered(c);
-    if n < in_c {
-        return Outcome::Order {
-            operand: 4,
-            place: n as u64,
-        };
-    }
-    Outcome::Done { count: 0 }
+    operands::check_count::<T>(a, 1)?;
+    operands::check_count::<T>(d, 2)?;
+    operands::check_count::<T>(b, 3)?;
+    operands::check_count::<T>(c, 4)?;
+    operands::check_order::<T>(a, 1)?;
+    operands::check_order::<T>(d, 2)?;
+    operands::check_order::<T>(b, 3)?;
+    operands::check_order::<T>(c, 4)
 }
 
 // The answer for four lists that passed the checks.
-fn judge(a: &[u64], d: &[u64], b: &[u64], c: &[u64]) -> u64
-    requires { Passed (same_checks TermList.MAX_TERMS (numbers a.now) (numbers d.now) (numbers b.now) (numbers c.now)) }
-    ensures { Judged TermList.MAX_VARS (numbers a.now) (numbers d.now) (numbers b.now) (numbers c.now) result (tt {0}) }
+fn judge<T: Term>(a: &[u64], d: &[u64], b: &[u64], c: &[u64]) -> bool
+    requires { Passed (same_checks TermList.MAX_TERMS (T.numbers a.now) (T.numbers d.now) (T.numbers b.now) (T.numbers c.now)) }
+    ensures { IsTrue result ↔ (SameProducts T.LINES (T.numbers a.now) (T.numbers d.now) (T.numbers b.now) (T.numbers c.now)) }
 {
-    let vars = TermList::MAX_VARS as u64;
-    let equal = cross::same(a, d, b, c, vars);
-    if equal {
-        return 1;
-    }
-    0
+    cross::same::<T>(a, d, b, c, T::LINES as u64)
 }

@@ -1,5 +1,5 @@
 -- The digits of a variable's number: none, one, or two where there is a variable of that number. Assumes nothing.
-use mathlib.Core.Path.{◌≡◌, refl, sym, ap, ap₂, ◌∙◌}
+use mathlib.Core.Path.{◌≡◌, refl, sym, ap, ap₂, subst, ◌∙◌}
 use mathlib.Core.Bool.{Bool, true, false, not, ◌&&◌, ◌||◌, and-false, true≢false}
 use mathlib.Core.List.{List, [], ◌∷◌, ◌++◌}
 use Prim.Native.Nat.{ℕ, suc, ◌+◌, ◌*◌, ◌<◌, ◌≤◌}
@@ -11,35 +11,32 @@ use lib.Dec.{ltb, eqb}
 use lib.ListN.{length, get_or, get_or-eq_default}
 use Rattle.typed.specs.Form.{star, plus, feed}
 use Rattle.typed.specs.Machine.{start, named, number, choose, on, off, behind, is_digit, digit_of, moved, within}
-use Rattle.terms.specs.Order.{pick}
-use Rattle.scan.specs.Told.{digit_in, on_from, more, Counted, ends_name}
+use Rattle.std.specs.Prelude.{Some, None, if◌then◌else◌}
+use Rattle.answer.specs.declared.Refusal.{Refusal}
+use Rattle.answer.specs.declared.Refusal.TheVariants.{Sign}
+use Rattle.scan.specs.Told.{digit_in, on_from, more, Counted, Unread, ends_name}
 use Rattle.scan.proofs.Steps.{by_test, leads_on, stops}
 
 -- a byte is a digit exactly if its digit is below 10
 digit_range : (c : ℕ) → is_digit c ≡ true → (0x30 ≤ c) × (c < 0x3a)
 digit_range c e = by_test (ltb c 0x30) (λ t. absurd (true≢false (sym e ∙ ap (λ (b : Bool). not b && ltb c 0x3a) t))) (λ f. (ltb-false c 0x30 f, ltb-true c 0x3a (sym (ap (λ (b : Bool). not b && ltb c 0x3a) f) ∙ e)))
 
-pub is_digit_lem : (c : ℕ) → digit_in c < 10 → is_digit c ≡ true
-is_digit_lem c h = by_test (is_digit c) (λ e. e) (λ e. absurd (let z : digit_in c ≡ 10 = ap (λ (b : Bool). pick b (digit_of c) 10) e in let x : ⊥ = omega arith in x))
+-- a byte that is a digit, and which
+abbrev pub Digit : ℕ → ℕ → Type 0
+Digit c d = (is_digit c ≡ true) × (digit_of c ≡ d)
 
-pub its_digit : (c : ℕ) → digit_in c < 10 → digit_of c ≡ digit_in c
-its_digit c h = sym (ap (λ (b : Bool). pick b (digit_of c) 10) (is_digit_lem c h))
-
-pub no_digit : (c : ℕ) → 9 < digit_in c → is_digit c ≡ false
-no_digit c h =
+-- the digit that a byte is, if it is one
+pub digit_some : (c d : ℕ) → Some d ≡ digit_in c → Digit c d
+digit_some c d e =
     by_test (is_digit c)
-    (λ e. absurd (let z : digit_in c ≡ digit_of c = ap (λ (b : Bool). pick b (digit_of c) 10) e in let x : ⊥ = omega (arith, digit_range c e) in x)) (λ e. e)
+    (λ t. let f : Some d ≡ Some (digit_of c) = e ∙ ap (λ (b : Bool). if b then Some (digit_of c) else None) t in (t, cc))
+    (λ t. let f : Some d ≡ None = e ∙ ap (λ (b : Bool). if b then Some (digit_of c) else None) t in absurd (let x : ⊥ = cc in x))
 
--- the digit that a byte is, from where it stands
-pub digit_below : (b c : ℕ) → b ≡ c → b < 0x30 → 10 ≡ digit_in c
-digit_below b c e h = sym (ap (λ (t : Bool). pick (not t && ltb c 0x3a) (digit_of c) 10) (lt-ltb c 0x30 (omega arith)))
-
-pub digit_above : (b c : ℕ) → b ≡ c → 0x30 ≤ b → 0x39 < b → 10 ≡ digit_in c
-digit_above b c e g h = sym (ap₂ (λ (t u : Bool). pick (not t && u) (digit_of c) 10) (le-ltb c 0x30 (omega arith)) (le-ltb c 0x3a (omega arith)))
-
-pub digit_between : (b c : ℕ) → b ≡ c → 0x30 ≤ b → b ≤ 0x39 → digit_of b ≡ digit_in c
-digit_between b c e g h =
-    ap digit_of e ∙ sym (ap₂ (λ (t u : Bool). pick (not t && u) (digit_of c) 10) (le-ltb c 0x30 (omega arith)) (lt-ltb c 0x3a (omega arith)))
+pub digit_none : (c : ℕ) → None ≡ digit_in c → is_digit c ≡ false
+digit_none c e =
+    by_test (is_digit c)
+    (λ t. let f : None ≡ Some (digit_of c) = e ∙ ap (λ (b : Bool). if b then Some (digit_of c) else None) t in absurd (let x : ⊥ = cc in x))
+    (λ t. t)
 
 -- a digit does not stand behind a variable
 digit_ends_no_name : (c : ℕ) → is_digit c ≡ true → ends_name c ≡ false
@@ -66,113 +63,104 @@ no_more vars n c h =
 pub zero_stands_alone : (vars n c : ℕ) → n ≡ 0 → more vars n c ≡ false
 zero_stands_alone vars n c e = rw (eq-eqb n 0 e) (and-false (is_digit c))
 
-pub no_digit_follows : (vars n c next : ℕ) → next ≡ digit_in c → 9 < next → more vars n c ≡ false
-no_digit_follows vars n c next e h = rw (no_digit c (omega arith)) refl
+pub no_digit_follows : (vars n c : ℕ) → is_digit c ≡ false → more vars n c ≡ false
+no_digit_follows vars n c e = rw e refl
 
 -- nor one that would be too large with it
-pub too_large_with_it : (vars n c next : ℕ) → next ≡ digit_in c → next ≤ 9 → vars ≤ 10 * n + next → more vars n c ≡ false
-too_large_with_it vars n c next e h l = no_more vars n c (omega (arith, its_digit c (omega arith)))
+pub too_large_with_it : (vars n c next : ℕ) → Digit c next → vars ≤ 10 * n + next → more vars n c ≡ false
+too_large_with_it vars n c next d l = no_more vars n c (omega (arith, d.1))
 
 -- but else it has
-another : (vars n c next : ℕ) → next ≡ digit_in c → next ≤ 9 → ¬ (n ≡ 0) → 10 * n + next < vars → more vars n c ≡ true
-another vars n c next e h nz l =
-    let m : digit_in c < 10 = omega arith in
-    rw (is_digit_lem c m, ne_eqb n 0 nz, lt-ltb (10 * n + digit_of c) vars (omega (arith, its_digit c m))) refl
+another : (vars n c next : ℕ) → Digit c next → ¬ (n ≡ 0) → 10 * n + next < vars → more vars n c ≡ true
+another vars n c next d nz l = rw (d.0, ne_eqb n 0 nz, lt-ltb (10 * n + digit_of c) vars (omega (arith, d.1))) refl
 
 -- a place where a digit stands is inside the text
-inside_if_digit : (text : List ℕ) (at : ℕ) → digit_in (get_or text at 0) < 10 → at < length text
+inside_if_digit : (text : List ℕ) (at : ℕ) → is_digit (get_or text at 0) ≡ true → at < length text
 inside_if_digit text at h =
     by_test (ltb at (length text)) (ltb-true at (length text))
-    (λ e. absurd (let z : digit_in (get_or text at 0) ≡ 10 = ap digit_in (get_or-eq_default text 0 (ltb-false at (length text) e)) in let x : ⊥ = omega arith in x))
+    (λ e. absurd (true≢false (sym h ∙ ap is_digit (get_or-eq_default text 0 (ltb-false at (length text) e)))))
+
+-- a digit is below 10
+digit_small : (c d : ℕ) → Digit c d → d < 10
+digit_small c d e = omega (arith, digit_range c e.0, e.1)
 
 module _ (vars : ℕ) (text : List ℕ) (at : ℕ) (inside : at ≤ length text) where
   -- no digit: no equation goes on so
-  pub no_number : (first : ℕ) → first ≡ digit_in (get_or text at 0) → 9 < first → Counted vars text at (record { value = vars; end = at })
+  pub no_number : (refusal : Refusal) → refusal ≡ Sign at → is_digit (get_or text at 0) ≡ false → Unread vars text at refusal
   unfolding moved
-  no_number first f g =
-      let h : 9 < digit_in (get_or text at 0) = omega arith in
+  no_number refusal is h =
       record {
-        inside = inside;
-        later = omega arith;
-        read = λ l. absurd (let x : ⊥ = omega arith in x);
-        wrong = λ l most ts vs.
+        place = at;
+        is = is;
+        wrong = λ most ts vs.
             stops vars most text (named ts vs) at inside (λ _. refl) refl refl
-            (ap (λ (b : Bool). choose (b && ltb (digit_of (get_or text at 0)) vars) (on (number ts vs (digit_of (get_or text at 0)))) off) (no_digit (get_or text at 0) h));
-        whole = λ l. absurd (let x : ⊥ = omega arith in x);
+            (ap (λ (b : Bool). choose (b && ltb (digit_of (get_or text at 0)) vars) (on (number ts vs (digit_of (get_or text at 0)))) off) h);
       }
 
   -- a first digit
-  first_digit : digit_in (get_or text at 0) < 10 → digit_in (get_or text at 0) < vars → (most : ℕ) (ts : List (List ℕ)) (vs : List ℕ)
-      → on_from vars most text (named ts vs) at ≡ on_from vars most text (number ts vs (digit_in (get_or text at 0))) (suc at)
+  first_digit : (first : ℕ) → Digit (get_or text at 0) first → first < vars → (most : ℕ) (ts : List (List ℕ)) (vs : List ℕ)
+      → on_from vars most text (named ts vs) at ≡ on_from vars most text (number ts vs first) (suc at)
   unfolding moved
-  first_digit h k most ts vs =
+  first_digit first d k most ts vs =
       let c = get_or text at 0 in
-      leads_on vars most text (named ts vs) at (inside_if_digit text at h) (number ts vs (digit_in c)) refl refl
-      (ap (λ (d : ℕ). choose (is_digit c && ltb d vars) (on (number ts vs d)) off) (its_digit c h)
-      ∙ ap₂ (λ (a b : Bool). choose (a && b) (on (number ts vs (digit_in c))) off) (is_digit_lem c h) (lt-ltb (digit_in c) vars k))
+      leads_on vars most text (named ts vs) at (inside_if_digit text at d.0) (number ts vs first) refl refl
+      (ap (λ (n : ℕ). choose (is_digit c && ltb n vars) (on (number ts vs n)) off) d.1
+      ∙ ap₂ (λ (a b : Bool). choose (a && b) (on (number ts vs first)) off) d.0 (lt-ltb first vars k))
 
   -- it stands alone where what follows is no other digit of the number
-  pub one_digit : (first : ℕ) → first ≡ digit_in (get_or text at 0) → first ≤ 9 → 10 ≤ vars → more vars first (get_or text (at + 1) 0) ≡ false
+  pub one_digit : (first : ℕ) → Digit (get_or text at 0) first → 10 ≤ vars → more vars first (get_or text (at + 1) 0) ≡ false
       → Counted vars text at (record { value = first; end = at + 1 })
-  one_digit first e h k w =
-      let l : digit_in (get_or text at 0) < 10 = omega arith in
+  one_digit first d k w =
       record {
-        inside = omega (arith, inside_if_digit text at l);
+        inside = omega (arith, inside_if_digit text at d.0);
         later = omega arith;
-        read = λ _ most ts vs. rw (e, add-one at) (first_digit l (omega arith) most ts vs);
-        wrong = λ g. absurd (let x : ⊥ = omega arith in x);
-        whole = λ _. w;
+        small = omega (arith, digit_small (get_or text at 0) first d);
+        read = λ most ts vs. rw (add-one at) (first_digit first d (omega (arith, digit_small (get_or text at 0) first d)) most ts vs);
+        whole = w;
       }
 
   -- two digits, where there is no variable of that number
-  pub too_large : (first next : ℕ) → first ≡ digit_in (get_or text at 0) → first ≤ 9 → 10 ≤ vars → next ≡ digit_in (get_or text (at + 1) 0) → next ≤ 9
-      → vars ≤ 10 * first + next → Counted vars text at (record { value = vars; end = at + 1 })
+  pub too_large : (first next : ℕ) (refusal : Refusal) → refusal ≡ Sign (at + 1) → Digit (get_or text at 0) first → 10 ≤ vars
+      → Digit (get_or text (at + 1) 0) next → vars ≤ 10 * first + next → Unread vars text at refusal
   unfolding moved
-  too_large first next e h k f g large =
-      let l : digit_in (get_or text at 0) < 10 = omega arith in
-      let m : digit_in (get_or text (at + 1) 0) < 10 = omega arith in
+  too_large first next refusal is d k e large =
       let c = get_or text (at + 1) 0 in
-      let none = digit_ends_no_name c (is_digit_lem c m) in
+      let none = digit_ends_no_name c e.0 in
       record {
-        inside = omega (arith, inside_if_digit text at l);
-        later = omega arith;
-        read = λ z. absurd (let x : ⊥ = omega arith in x);
-        wrong = λ _ most ts vs.
-            first_digit l (omega arith) most ts vs
-            ∙ ap₂ (λ (n i : ℕ). on_from vars most text (number ts vs n) i) (sym e) (sym (add-one at))
-            ∙ stops vars most text (number ts vs first) (at + 1) (omega (arith, inside_if_digit text at l)) (λ _. refl)
+        place = at + 1;
+        is = is;
+        wrong = λ most ts vs.
+            first_digit first d (omega (arith, digit_small (get_or text at 0) first d)) most ts vs
+            ∙ ap (on_from vars most text (number ts vs first)) (sym (add-one at))
+            ∙ stops vars most text (number ts vs first) (at + 1) (omega (arith, inside_if_digit text at d.0)) (λ _. refl)
             (ap (λ (b : Bool). within first vs && b) none ∙ and-false (within first vs)) refl
             (ap (λ (b : Bool). choose b (on (number ts vs (10 * first + digit_of c))) (choose (eqb c star) (on (start ts (vs ++ first ∷ []))) (behind (ts ++ (vs ++ first ∷ []) ∷ []) c)))
-            (too_large_with_it vars first c next f g large)
+            (too_large_with_it vars first c next e large)
             ∙ behind_no_name c ts vs first none);
-        whole = λ z. absurd (let x : ⊥ = omega arith in x);
       }
 
   -- two digits, where there is a variable of that number
-  pub two_digits : (first next : ℕ) → first ≡ digit_in (get_or text at 0) → first ≤ 9 → ¬ (first ≡ 0) → next ≡ digit_in (get_or text (at + 1) 0) → next ≤ 9
+  pub two_digits : (first next : ℕ) → Digit (get_or text at 0) first → ¬ (first ≡ 0) → Digit (get_or text (at + 1) 0) next
       → 10 * first + next < vars → vars ≤ 100 → Counted vars text at (record { value = 10 * first + next; end = at + 2 })
   unfolding moved
-  two_digits first next e h nz f g less k =
-      let l : digit_in (get_or text at 0) < 10 = omega arith in
-      let m : digit_in (get_or text (suc at) 0) < 10 = omega (arith, ap (λ (i : ℕ). digit_in (get_or text i 0)) (add-one at)) in
+  two_digits first next d nz f less k =
       record {
-        inside = omega (arith, inside_if_digit text (suc at) m);
+        inside = omega (arith, inside_if_digit text (suc at) second.0);
         later = omega arith;
-        read = λ _ most ts vs.
-            first_digit l (omega arith) most ts vs
-            ∙ leads_on vars most text (number ts vs (digit_in (get_or text at 0))) (suc at) (inside_if_digit text (suc at) m) (number ts vs (10 * first + next))
-            (ap (λ (b : Bool). within (digit_in (get_or text at 0)) vs && b) (digit_ends_no_name (get_or text (suc at) 0) (is_digit_lem (get_or text (suc at) 0) m))
-            ∙ and-false (within (digit_in (get_or text at 0)) vs))
+        small = less;
+        read = λ most ts vs.
+            first_digit first d (omega arith) most ts vs
+            ∙ leads_on vars most text (number ts vs first) (suc at) (inside_if_digit text (suc at) second.0) (number ts vs (10 * first + next))
+            (ap (λ (b : Bool). within first vs && b) (digit_ends_no_name (get_or text (suc at) 0) second.0) ∙ and-false (within first vs))
             refl
-            (rw (another vars (digit_in (get_or text at 0)) (get_or text (suc at) 0) next second g (λ z. nz (e ∙ z)) (omega arith))
-            (ap (λ (n : ℕ). on (number ts vs n)) (omega (arith, second, its_digit (get_or text (suc at) 0) m))))
+            (rw (another vars first (get_or text (suc at) 0) next second nz less)
+            (ap (λ (n : ℕ). on (number ts vs (10 * first + n))) second.1))
             ∙ ap (on_from vars most text (number ts vs (10 * first + next))) (omega arith);
-        wrong = λ z. absurd (let x : ⊥ = omega arith in x);
-        whole = λ _. no_more vars (10 * first + next) (get_or text (at + 2) 0) (omega (arith, first_not_0));
+        whole = no_more vars (10 * first + next) (get_or text (at + 2) 0) (omega (arith, first_not_0));
       }
     where
       first_not_0 : 0 < first
       first_not_0 = pos_of_ne-zero nz
 
-      second : next ≡ digit_in (get_or text (suc at) 0)
-      second = f ∙ ap (λ (i : ℕ). digit_in (get_or text i 0)) (add-one at)
+      second : Digit (get_or text (suc at) 0) next
+      second = subst (λ (i : ℕ). Digit (get_or text i 0) next) (add-one at) f

@@ -6,21 +6,23 @@ use mathlib.Core.Logic.{◌⊎◌, inl, inr}
 use Prim.Native.Nat.{ℕ, suc, ◌+◌, ◌*◌, ◌^◌, ◌<◌, ◌≤◌}
 use native.Mathlib.Numerals.{add-one}
 use native.Mathlib.Omega.{arith}
-use borrow.Author.Tests.{ltb-true, ltb-false, eqb-true, eqb-false, ne_eqb}
+use borrow.Author.Tests.{eqb-true, eqb-false, ne_eqb}
 use lib.Bits.{bit_and, bit_or, or_comm, and_comm}
-use lib.Dec.{ltb, eqb}
+use lib.Dec.{eqb}
 use lib.ListN.{length, get_or}
 use Rattle.masks.specs.Bit.{bit}
 use Rattle.masks.proofs.Bits.{bit_and_lem, bit_or_lem, bit_zero, zero_from_bits, bit_power_same, bit_power_other}
 use Rattle.masks.proofs.Sets.{or_assoc, bit_of_apart}
 use Rattle.typed.specs.Form.{letter, star, plus, feed, digit}
-use Rattle.typed.specs.Shown.{sign, shown}
+use Rattle.typed.specs.Shown.{sign, twice, shown}
 use Rattle.typed.specs.Says.{mask}
 use Rattle.typed.specs.Machine.{State, start, named, number, choose, Move, on, off, within, digit_of, behind, onward, moved}
 use Rattle.typed.specs.Machine as machine
 use Rattle.scan.specs.declared.Found.{Found}
-use Rattle.scan.specs.declared.Piece.TheVariants as piece
-use Rattle.scan.specs.Told.{on_from, more, Counted, ends_name, Ended, past, Always, Told}
+use Rattle.answer.specs.declared.Refusal.{Refusal}
+use Rattle.answer.specs.declared.Refusal.TheVariants.{Sign, Twice}
+use Rattle.answer.specs.Table.{refusal_of}
+use Rattle.scan.specs.Told.{on_from, more, Counted, Unread, ends_name, Ended, past, Always, Term, Shows}
 use Rattle.scan.proofs.Steps.{some, by_test, leads_on, shows_twice, stops, inside_if_byte}
 use Rattle.scan.proofs.Numerals.{behind_no_name}
 
@@ -75,25 +77,23 @@ module _ (vars : ℕ) (text : List ℕ) (at : ℕ) (found : Found) (counted : Co
   -- a variable with such a byte behind it,
   pub name_ends : (b : ℕ) (said : Bool) → b ≡ get_or text found.end 0 → said ≡ ends_name b → said ≡ true → Ended vars text at found
   name_ends b said is_it says sure =
-      let h : ends_name (get_or text found.end 0) ≡ true = sym (ap ends_name is_it) ∙ sym says ∙ sure in record { later = counted.later; read = counted.read; wrong = counted.wrong; behind = λ _. h }
+      let h : ends_name (get_or text found.end 0) ≡ true = sym (ap ends_name is_it) ∙ sym says ∙ sure in
+      record { later = counted.later; small = counted.small; read = counted.read; behind = h }
 
   -- and one without
-  pub name_goes_on : (b : ℕ) (said : Bool) → b ≡ get_or text found.end 0 → said ≡ ends_name b → said ≡ false
-      → Ended vars text at (record { value = vars; end = found.end })
+  pub name_goes_on : (b : ℕ) (said : Bool) (refusal : Refusal) → b ≡ get_or text found.end 0 → said ≡ ends_name b → said ≡ false
+      → refusal ≡ Sign found.end → Unread vars text at refusal
   unfolding moved
-  name_goes_on b said is_it says sure =
+  name_goes_on b said refusal is_it says sure is =
       let h : ends_name (get_or text found.end 0) ≡ false = sym (ap ends_name is_it) ∙ sym says ∙ sure in
       record {
-        later = counted.later;
-        read = λ l. absurd (let x : ⊥ = omega arith in x);
-        wrong = λ _ most ts vs.
-            by_test (ltb found.value vars)
-            (λ e. counted.read (ltb-true found.value vars e) most ts vs
+        place = found.end;
+        is = is;
+        wrong = λ most ts vs.
+            counted.read most ts vs
             ∙ stops vars most text (number ts vs found.value) found.end counted.inside (λ _. refl)
             (ap (λ (b : Bool). within found.value vs && b) h ∙ and-false (within found.value vs)) refl
-            (nowhere ts vs found.value (get_or text found.end 0) (counted.whole (ltb-true found.value vars e)) h))
-            (λ e. counted.wrong (ltb-false found.value vars e) most ts vs);
-        behind = λ l. absurd (let x : ⊥ = omega arith in x);
+            (nowhere ts vs found.value (get_or text found.end 0) counted.whole h);
       }
     where
       nowhere : (ts : List (List ℕ)) (vs : List ℕ) (n c : ℕ) → more vars n c ≡ false → ends_name c ≡ false
@@ -101,8 +101,8 @@ module _ (vars : ℕ) (text : List ℕ) (at : ℕ) (found : Found) (counted : Co
       nowhere ts vs n c m e = rw m (behind_no_name c ts vs n e)
 
 -- a variable that was found ends inside the text
-pub name_inside : (vars : ℕ) (text : List ℕ) (at : ℕ) (found : Found) → Ended vars text at found → found.value < vars → found.end < length text
-name_inside vars text at found ended a_name = inside_if_byte text found.end (not_0 (get_or text found.end 0) (ended.behind a_name))
+pub name_inside : (vars : ℕ) (text : List ℕ) (at : ℕ) (found : Found) → Ended vars text at found → found.end < length text
+name_inside vars text at found ended = inside_if_byte text found.end (not_0 (get_or text found.end 0) ended.behind)
 
 -- where the byte behind a variable leads
 after_star : (vars : ℕ) (ts : List (List ℕ)) (vs : List ℕ) (n c : ℕ) → c ≡ star → moved vars (number ts vs n) c ≡ on (start ts (vs ++ n ∷ []))
@@ -140,24 +140,37 @@ going_first vars text from h = record { vs = []; value = refl; inside = h; later
 not_again : (v : ℕ) (vs : List ℕ) (c : ℕ) → within v vs ≡ false → within v vs && ends_name c ≡ false
 not_again v vs c e = ap (λ (t : Bool). t && ends_name c) e
 
-module _ (vars : ℕ) (text : List ℕ) (from term at : ℕ) (found : Found) (going : Going vars text from term at) (ended : Ended vars text at found) where
-  -- no variable goes on so
-  pub no_name : vars ≤ found.value → Told vars Always (λ ts. named ts []) text from (piece.Sign found.end)
-  no_name h = λ most ts _. going.same most ts ∙ ended.wrong h most ts going.vs
+-- no variable goes on so
+pub no_name : (vars : ℕ) (text : List ℕ) (from term at : ℕ) (refusal : Refusal) → Going vars text from term at → Unread vars text at refusal
+    → Shows vars Always (λ ts. named ts []) text from refusal
+no_name vars text from term at refusal going unread =
+    record {
+      fault = sign;
+      place = unread.place;
+      numbers = ap refusal_of unread.is;
+      wrong = λ most ts _. going.same most ts ∙ unread.wrong most ts going.vs;
+    }
 
-  module _ (bit : ℕ) (a_name : found.value < vars) (its_bit : bit ≡ 2 ^ found.value) where
+module _ (vars : ℕ) (text : List ℕ) (from term at : ℕ) (found : Found) (going : Going vars text from term at) (ended : Ended vars text at found) where
+  module _ (bit : ℕ) (its_bit : bit ≡ 2 ^ found.value) where
     so_far : (most : ℕ) (ts : List (List ℕ)) → on_from vars most text (named ts []) from ≡ on_from vars most text (number ts going.vs found.value) found.end
-    so_far most ts = going.same most ts ∙ ended.read a_name most ts going.vs
+    so_far most ts = going.same most ts ∙ ended.read most ts going.vs
 
     inside : found.end < length text
-    inside = name_inside vars text at found ended a_name
+    inside = name_inside vars text at found ended
 
     -- it stands in the term already
-    pub again : ¬ (bit_and term bit ≡ 0) → Told vars Always (λ ts. named ts []) text from (piece.Twice found.end)
-    again h = λ most ts _.
-        so_far most ts
-        ∙ shows_twice vars most text (number ts going.vs found.value) found.end inside
-        (ap₂ ◌&&◌ (stands_again going.vs found.value term bit going.value its_bit h) (ended.behind a_name))
+    pub again : ¬ (bit_and term bit ≡ 0) → Shows vars Always (λ ts. named ts []) text from (Twice found.end)
+    again h =
+        record {
+          fault = twice;
+          place = found.end;
+          numbers = refl;
+          wrong = λ most ts _.
+              so_far most ts
+              ∙ shows_twice vars most text (number ts going.vs found.value) found.end inside
+              (ap₂ ◌&&◌ (stands_again going.vs found.value term bit going.value its_bit h) ended.behind);
+        }
 
     module _ (new : bit_and term bit ≡ 0) where
       first : within found.value going.vs ≡ false
@@ -168,17 +181,18 @@ module _ (vars : ℕ) (text : List ℕ) (from term at : ℕ) (found : Found) (go
 
       -- the term ends
       pub term_ends : (b : ℕ) → b ≡ get_or text found.end 0 → ¬ (b ≡ star)
-          → Told vars Always (λ ts. named ts []) text from (piece.Read (bit_or term bit) found.end)
-      term_ends b is_it h = (
-        going.vs ++ found.value ∷ [],
-        with_it,
-        omega (arith, going.later, ended.later),
-        ends,
-        λ most ts _. so_far most ts ∙ on_to most ts ends,
-      )
+          → Term vars Always (λ ts. named ts []) text from (record { value = bit_or term bit; end = found.end })
+      term_ends b is_it h =
+          record {
+            vs = going.vs ++ found.value ∷ [];
+            value = with_it;
+            later = omega (arith, going.later, ended.later);
+            ends = ends;
+            read = λ most ts _. so_far most ts ∙ on_to most ts ends;
+          }
         where
           ends : (get_or text found.end 0 ≡ plus) ⊎ (get_or text found.end 0 ≡ feed)
-          ends = no_star (one_of_three (get_or text found.end 0) (ended.behind a_name))
+          ends = no_star (one_of_three (get_or text found.end 0) ended.behind)
             where
               no_star : (get_or text found.end 0 ≡ star) ⊎ ((get_or text found.end 0 ≡ plus) ⊎ (get_or text found.end 0 ≡ feed))
                   → (get_or text found.end 0 ≡ plus) ⊎ (get_or text found.end 0 ≡ feed)
@@ -208,15 +222,22 @@ module _ (vars : ℕ) (text : List ℕ) (from term at : ℕ) (found : Found) (go
             ∙ ap (on_from vars most text (start ts (going.vs ++ found.value ∷ []))) (sym (add-one found.end))
 
         -- a `*`, and no variable behind it
-        pub no_variable : (d : ℕ) → d ≡ get_or text (found.end + 1) 0 → ¬ (d ≡ letter) → Told vars Always (λ ts. named ts []) text from (piece.Sign (found.end + 1))
+        pub no_variable : (d : ℕ) (refusal : Refusal) → d ≡ get_or text (found.end + 1) 0 → ¬ (d ≡ letter) → refusal ≡ Sign (found.end + 1)
+            → Shows vars Always (λ ts. named ts []) text from refusal
         unfolding moved
-        no_variable d it h = λ most ts _.
-            next_one most ts
-            ∙ stops vars most text (start ts (going.vs ++ found.value ∷ [])) (found.end + 1) (omega (arith, inside)) (λ _. refl) refl
-            (rw (some going.vs found.value) refl)
-            (rw (some going.vs found.value, ne_eqb (get_or text (found.end + 1) 0) letter (λ e. h (it ∙ e)))
-            (ap₂ (λ (a b : Bool). choose a (on (machine.one ts)) (choose b (on machine.zero) off)) (and-false (eqb (get_or text (found.end + 1) 0) (digit 1)))
-            (and-false (eqb (get_or text (found.end + 1) 0) (digit 0)))))
+        no_variable d refusal it h is =
+            record {
+              fault = sign;
+              place = found.end + 1;
+              numbers = ap refusal_of is;
+              wrong = λ most ts _.
+                  next_one most ts
+                  ∙ stops vars most text (start ts (going.vs ++ found.value ∷ [])) (found.end + 1) (omega (arith, inside)) (λ _. refl) refl
+                  (rw (some going.vs found.value) refl)
+                  (rw (some going.vs found.value, ne_eqb (get_or text (found.end + 1) 0) letter (λ e. h (it ∙ e)))
+                  (ap₂ (λ (a b : Bool). choose a (on (machine.one ts)) (choose b (on machine.zero) off)) (and-false (eqb (get_or text (found.end + 1) 0) (digit 1)))
+                  (and-false (eqb (get_or text (found.end + 1) 0) (digit 0)))));
+            }
 
         -- or another variable
         pub goes_on : (d : ℕ) → d ≡ get_or text (found.end + 1) 0 → d ≡ letter → Going vars text from (bit_or term bit) (found.end + 1 + 1)

@@ -11,15 +11,17 @@ use lib.Dec.{ltb, eqb}
 use lib.ListN.{length, take, set, get_or, length-set, length-append, drop_of_length-le}
 use lib.Seq.{take-suc-set}
 use Rattle.answer.specs.declared.Answer.{Answer}
-use Rattle.answer.specs.Table.{accepted, refused}
+use Rattle.answer.specs.Table.{accepted, refused, refusal_of}
 use Rattle.typed.specs.Form.{letter, digit, plus, feed}
-use Rattle.typed.specs.Shown.{Fault, sign, twice, many, Verdict, shown, equation}
+use Rattle.typed.specs.Shown.{Fault, sign, many, Verdict, shown, equation}
 use Rattle.typed.specs.Says.{mask}
 use Rattle.typed.specs.Machine.{State, start, named, one, choose, on, off, none, behind, moved, reads}
 use Rattle.typed.specs.Machine as machine
-use Rattle.scan.specs.declared.Piece.{Piece}
-use Rattle.scan.specs.declared.Piece.TheVariants as piece
-use Rattle.scan.specs.Told.{on_from, ends_term, begins_term, past, Always, Another, Told, answer_of, Holds, Full, Finished, Scanned}
+use Rattle.std.specs.Prelude.{Result, Ok, Err}
+use Rattle.answer.specs.declared.Refusal.{Refusal}
+use Rattle.answer.specs.declared.Refusal.TheVariants.{Sign}
+use Rattle.scan.specs.declared.Found.{Found}
+use Rattle.scan.specs.Told.{on_from, ends_term, begins_term, past, Always, Another, Term, Shows, Told, answer_of, Holds, Full, Finished, Scanned}
 use Rattle.scan.proofs.Steps.{some, by_test, leads_on, leads_nowhere, shows_many, stops, inside_if_byte}
 use Rattle.scan.proofs.Products.{past_it}
 
@@ -35,9 +37,9 @@ neither false q e = (refl, e)
 
 module _ (vars : ℕ) (text : List ℕ) (end : ℕ) (b : ℕ) (said : Bool) (is_it : b ≡ get_or text end 0) (says : said ≡ ends_term b) where
   -- it ends,
-  pub constant_ends : said ≡ true → Told vars Always one text end (piece.Read 0 end)
+  pub constant_ends : said ≡ true → Term vars Always one text end (record { value = 0; end = end })
   unfolding mask moved
-  constant_ends sure = ([], refl, omega arith, which, λ most ts _. on_to most ts which)
+  constant_ends sure = record { vs = []; value = refl; later = omega arith; ends = which; read = λ most ts _. on_to most ts which }
     where
       which : (get_or text end 0 ≡ plus) ⊎ (get_or text end 0 ≡ feed)
       which = one_of_two (get_or text end 0) plus feed (sym (ap ends_term is_it) ∙ sym says ∙ sure)
@@ -54,29 +56,41 @@ module _ (vars : ℕ) (text : List ℕ) (end : ℕ) (b : ℕ) (said : Bool) (is_
           ∙ sym (past_it vars most text T end (machine.end T) (ap (behind T) e))
 
   -- or no equation goes on so
-  pub constant_goes_on : end ≤ length text → said ≡ false → Told vars Always one text end (piece.Sign end)
+  pub constant_goes_on : (refusal : Refusal) → end ≤ length text → said ≡ false → refusal ≡ Sign end → Shows vars Always one text end refusal
   unfolding moved
-  constant_goes_on inside sure = λ most ts _.
+  constant_goes_on refusal inside sure is =
       let w = neither (eqb (get_or text end 0) plus) (eqb (get_or text end 0) feed) (sym (ap ends_term is_it) ∙ sym says ∙ sure) in
-      stops vars most text (one ts) end inside (λ _. refl) refl refl (rw (w.0, w.1) refl)
+      record {
+        fault = sign;
+        place = end;
+        numbers = ap refusal_of is;
+        wrong = λ most ts _. stops vars most text (one ts) end inside (λ _. refl) refl refl (rw (w.0, w.1) refl);
+      }
 
 -- ---- where a term begins
 
 -- what is told of a piece from a later place on is told of it from here on, where the bytes between lead there
-told_from_here : (vars : ℕ) (Before : ℕ → List (List ℕ) → Type 0) (here there : List (List ℕ) → State) (text : List ℕ) (at to : ℕ) (p : Piece) → at ≤ to
+told_from_here : (vars : ℕ) (Before : ℕ → List (List ℕ) → Type 0) (here there : List (List ℕ) → State) (text : List ℕ) (at to : ℕ)
+    (p : Result Found Refusal) → at ≤ to
     → ((most : ℕ) (ts : List (List ℕ)) → Before most ts → on_from vars most text (here ts) at ≡ on_from vars most text (there ts) to)
     → Told vars Always there text to p → Told vars Before here text at p
-told_from_here vars Before here there text at to (piece.Sign place) l e told = λ most ts b. e most ts b ∙ told most ts tt
-told_from_here vars Before here there text at to (piece.Twice place) l e told = λ most ts b. e most ts b ∙ told most ts tt
-told_from_here vars Before here there text at to (piece.Read term end) l e (vs, is, later, which, told) =
-    (vs, is, omega arith, which, λ most ts b. e most ts b ∙ told most ts tt)
+told_from_here vars Before here there text at to (Ok found) l e told =
+    record {
+      vs = told.vs;
+      value = told.value;
+      later = omega (arith, told.later);
+      ends = told.ends;
+      read = λ most ts b. e most ts b ∙ told.read most ts tt;
+    }
+told_from_here vars Before here there text at to (Err refusal) l e told =
+    record { fault = told.fault; place = told.place; numbers = told.numbers; wrong = λ most ts b. e most ts b ∙ told.wrong most ts tt }
 
 module _ (vars : ℕ) (text : List ℕ) (at : ℕ) (b : ℕ) (is_it : b ≡ get_or text at 0) where
   few : (most : ℕ) (ts : List (List ℕ)) → ¬ (length ts ≡ most) → eqb (length ts) most ≡ false
   few most ts h = ne_eqb (length ts) most h
 
   -- with a variable,
-  pub begins_with_x : b ≡ letter → (p : Piece) → Told vars Always (λ ts. named ts []) text (at + 1) p → Told vars (Another (get_or text at 0)) (λ ts. start ts []) text at p
+  pub begins_with_x : b ≡ letter → (p : Result Found Refusal) → Told vars Always (λ ts. named ts []) text (at + 1) p → Told vars (Another (get_or text at 0)) (λ ts. start ts []) text at p
   unfolding moved
   begins_with_x e p =
       told_from_here vars (Another (get_or text at 0)) (λ ts. start ts []) (λ ts. named ts []) text at (at + 1) p (omega arith)
@@ -86,7 +100,7 @@ module _ (vars : ℕ) (text : List ℕ) (at : ℕ) (b : ℕ) (is_it : b ≡ get_
       ∙ ap (on_from vars most text (named ts [])) (sym (add-one at)))
 
   -- with `1`,
-  pub begins_with_1 : b ≡ digit 1 → (p : Piece) → Told vars Always one text (at + 1) p → Told vars (Another (get_or text at 0)) (λ ts. start ts []) text at p
+  pub begins_with_1 : b ≡ digit 1 → (p : Result Found Refusal) → Told vars Always one text (at + 1) p → Told vars (Another (get_or text at 0)) (λ ts. start ts []) text at p
   unfolding moved
   begins_with_1 e p =
       told_from_here vars (Another (get_or text at 0)) (λ ts. start ts []) one text at (at + 1) p (omega arith)
@@ -100,9 +114,15 @@ module _ (vars : ℕ) (text : List ℕ) (at : ℕ) (b : ℕ) (is_it : b ≡ get_
   no_term f g ts z = rw (ne_eqb (get_or text at 0) letter (λ e. f (is_it ∙ e)), ne_eqb (get_or text at 0) (digit 1) (λ e. g (is_it ∙ e)), z) refl
 
   -- or with nothing that a term begins with
-  pub begins_with_none : at ≤ length text → ¬ (b ≡ letter) → ¬ (b ≡ digit 1) → Told vars (Another (get_or text at 0)) (λ ts. start ts []) text at (piece.Sign at)
-  begins_with_none inside f g = λ most ts w.
-      stops vars most text (start ts []) at inside (λ _. refl) refl (ap (λ (t : Bool). t && begins_term (get_or text at 0)) (few most ts w.0)) (no_term f g ts w.1)
+  pub begins_with_none : (refusal : Refusal) → at ≤ length text → ¬ (b ≡ letter) → ¬ (b ≡ digit 1) → refusal ≡ Sign at
+      → Shows vars (Another (get_or text at 0)) (λ ts. start ts []) text at refusal
+  begins_with_none refusal inside f g is = record {
+    fault = sign;
+    place = at;
+    numbers = ap refusal_of is;
+    wrong = λ most ts w.
+        stops vars most text (start ts []) at inside (λ _. refl) refl (ap (λ (t : Bool). t && begins_term (get_or text at 0)) (few most ts w.0)) (no_term f g ts w.1);
+  }
 
   -- behind as many terms as a list may have
   module _ (most : ℕ) (said : Bool) (says : said ≡ begins_term b) where
@@ -114,14 +134,14 @@ module _ (vars : ℕ) (text : List ℕ) (at : ℕ) (b : ℕ) (is_it : b ≡ get_
         inside : begins_term (get_or text at 0) ≡ true → at < length text
         inside h = inside_if_byte text at (λ z. let w : begins_term 0 ≡ true = subst (λ (k : ℕ). begins_term k ≡ true) z h in let q : ◌≡◌ {A = ℕ} 0 1 = cc in omega arith)
 
-    pub none_too_many : at ≤ length text → said ≡ false → Full most vars text at (refused 14 1 at)
-    none_too_many inside sure ts all z =
+    pub none_too_many : (refusal : Refusal) → at ≤ length text → said ≡ false → refusal ≡ Sign at → Full most vars text at (refusal_of refusal)
+    none_too_many refusal inside sure is ts all z =
         let it : begins_term (get_or text at 0) ≡ false = sym (ap begins_term is_it) ∙ sym says ∙ sure in
         let w = neither (eqb (get_or text at 0) letter) (eqb (get_or text at 0) (digit 1)) it in (
           sign,
           stops vars most text (start ts []) at inside (λ _. refl) refl (ap₂ ◌&&◌ (eq-eqb (length ts) most all) it)
               (no_term (λ e. eqb-false (get_or text at 0) letter w.0 (sym is_it ∙ e)) (λ e. eqb-false (get_or text at 0) (digit 1) w.1 (sym is_it ∙ e)) ts z),
-          refl,
+          ap refusal_of is,
         )
 
 -- ---- behind the line feed
@@ -130,8 +150,9 @@ behind_feed : (most vars : ℕ) (text : List ℕ) (at : ℕ) (ts : List (List �
 unfolding moved
 behind_feed most vars text at ts inside = leads_nowhere vars most text (machine.end ts) at inside refl refl refl
 
-pub not_the_end : (most vars : ℕ) (text : List ℕ) (at count : ℕ) → at < length text → Finished most vars text at count (refused 14 1 at)
-not_the_end most vars text at count inside ts _ = sym (ap answer_of (behind_feed most vars text at ts inside))
+pub not_the_end : (most vars : ℕ) (text : List ℕ) (at count : ℕ) (refusal : Refusal) → at < length text → refusal ≡ Sign at
+    → Finished most vars text at count (refusal_of refusal)
+not_the_end most vars text at count refusal inside is ts _ = ap refusal_of is ∙ sym (ap answer_of (behind_feed most vars text at ts inside))
 
 no_more_bytes : (most vars : ℕ) (text : List ℕ) (at : ℕ) (ts : List (List ℕ)) → length text ≤ at → on_from vars most text (machine.end ts) at ≡ equation ts
 unfolding reads
@@ -181,101 +202,95 @@ module _ (most vars : ℕ) (text old words : List ℕ) (count at : ℕ) (reading
       let w = told reading.ts (reading.counted ∙ all) reading.begun in
       subst (λ (a : Answer). Scanned most vars text old a words) (sym w.2) (shown_so most vars text old words w.0 at reading.kept (reading.same ∙ w.1))
 
-  module _ (not_full : ¬ (count ≡ most)) where
+  module _ (not_full : count < most) where
     another : Another (get_or text at 0) most reading.ts
-    another = (λ e. not_full (sym reading.counted ∙ e), reading.begun)
+    another = ((λ e. let x : ⊥ = omega (arith, reading.counted) in x), reading.begun)
 
     below : count < most
     below = omega (arith, not_full, reading.few)
 
-    -- no term goes on so
-    pub sign_so : (p : Piece) (place : ℕ) → p ≡ piece.Sign place → Told vars (Another (get_or text at 0)) (λ ts. start ts []) text at p
-        → Scanned most vars text old (refused 14 1 place) words
-    sign_so p place e told = shown_so most vars text old words sign place reading.kept (reading.same ∙ (rw e at told) most reading.ts another)
+    -- the text shows a fault
+    pub shows_so : (refusal : Refusal) → Shows vars (Another (get_or text at 0)) (λ ts. start ts []) text at refusal
+        → Scanned most vars text old (refusal_of refusal) words
+    shows_so refusal shows =
+        subst (λ (a : Answer). Scanned most vars text old a words) (sym shows.numbers)
+        (shown_so most vars text old words shows.fault shows.place reading.kept (reading.same ∙ shows.wrong most reading.ts another))
 
-    -- a variable stands in its term again
-    pub twice_so : (p : Piece) (place : ℕ) → p ≡ piece.Twice place → Told vars (Another (get_or text at 0)) (λ ts. start ts []) text at p
-        → Scanned most vars text old (refused 15 1 place) words
-    twice_so p place e told = shown_so most vars text old words twice place reading.kept (reading.same ∙ (rw e at told) most reading.ts another)
-
-    module _ (p : Piece) (term end : ℕ) (is_read : p ≡ piece.Read term end) (told_it : Told vars (Another (get_or text at 0)) (λ ts. start ts []) text at p) where
-      abbrev told : Told vars (Another (get_or text at 0)) (λ ts. start ts []) text at (piece.Read term end)
-      told = subst (Told vars (Another (get_or text at 0)) (λ ts. start ts []) text at) is_read told_it
-
+    module _ (found : Found) (told : Term vars (Another (get_or text at 0)) (λ ts. start ts []) text at found) where
       abbrev so_far : List (List ℕ)
-      so_far = reading.ts ++ told.0 ∷ []
+      so_far = reading.ts ++ told.vs ∷ []
 
       pub room_for_it : count < length words
       room_for_it = omega (arith, below, reading.lent, reading.kept)
 
-      behind_it : (get_or text end 0 ≡ plus) ⊎ (get_or text end 0 ≡ feed)
-      behind_it = told.3
+      behind_it : (get_or text found.end 0 ≡ plus) ⊎ (get_or text found.end 0 ≡ feed)
+      behind_it = told.ends
 
-      pub ends_in_text : end < length text
-      ends_in_text = inside_if_byte text end (λ z. not_0 z behind_it)
+      pub ends_in_text : found.end < length text
+      ends_in_text = inside_if_byte text found.end (λ z. not_0 z behind_it)
         where
-          not_0 : get_or text end 0 ≡ 0 → (get_or text end 0 ≡ plus) ⊎ (get_or text end 0 ≡ feed) → ⊥
+          not_0 : get_or text found.end 0 ≡ 0 → (get_or text found.end 0 ≡ plus) ⊎ (get_or text found.end 0 ≡ feed) → ⊥
           not_0 z (inl e) = omega arith
           not_0 z (inr e) = omega arith
 
-      pub ends_later : at ≤ end
-      ends_later = told.2
+      pub ends_later : at ≤ found.end
+      ends_later = told.later
 
-      on_to : reads vars most (start [] []) 0 text ≡ past vars most text so_far end
-      on_to = reading.same ∙ told.4 most reading.ts another
+      on_to : reads vars most (start [] []) 0 text ≡ past vars most text so_far found.end
+      on_to = reading.same ∙ told.read most reading.ts another
 
       counted_too : length so_far ≡ count + 1
-      counted_too = length-append reading.ts (told.0 ∷ []) ∙ ap (λ (k : ℕ). k + 1) reading.counted
+      counted_too = length-append reading.ts (told.vs ∷ []) ∙ ap (λ (k : ℕ). k + 1) reading.counted
 
-      held_too : take (count + 1) (set words count term) ≡ map mask so_far
+      held_too : take (count + 1) (set words count found.value) ≡ map mask so_far
       held_too =
-          ap (λ (k : ℕ). take k (set words count term)) (add-one count)
-          ∙ take-suc-set words count term room_for_it
-          ∙ ap₂ (λ (l : List ℕ) (t : ℕ). l ++ t ∷ []) reading.held (sym told.1)
-          ∙ sym (map-append mask reading.ts (told.0 ∷ []))
+          ap (λ (k : ℕ). take k (set words count found.value)) (add-one count)
+          ∙ take-suc-set words count found.value room_for_it
+          ∙ ap₂ (λ (l : List ℕ) (t : ℕ). l ++ t ∷ []) reading.held (sym told.value)
+          ∙ sym (map-append mask reading.ts (told.vs ∷ []))
 
       -- the line feed
-      pub feed_so : (b : ℕ) (answer : Answer) → b ≡ get_or text end 0 → b ≡ feed → Finished most vars text (end + 1) (count + 1) answer
-          → Scanned most vars text old answer (set words count term)
+      pub feed_so : (b : ℕ) (answer : Answer) → b ≡ get_or text found.end 0 → b ≡ feed → Finished most vars text (found.end + 1) (count + 1) answer
+          → Scanned most vars text old answer (set words count found.value)
       feed_so b answer is_it a_feed finished =
           record {
-            same = length-set words count term ∙ reading.kept;
+            same = length-set words count found.value ∙ reading.kept;
             numbers = finished so_far counted_too ∙ sym (ap answer_of there);
-            holds = subst (λ (v : Verdict). Holds v (set words count term)) (sym there) (holds_at_end (end + 1));
+            holds = subst (λ (v : Verdict). Holds v (set words count found.value)) (sym there) (holds_at_end (found.end + 1));
           }
         where
-          there : reads vars most (start [] []) 0 text ≡ on_from vars most text (machine.end so_far) (end + 1)
+          there : reads vars most (start [] []) 0 text ≡ on_from vars most text (machine.end so_far) (found.end + 1)
           there =
-              on_to ∙ past_it vars most text so_far end (machine.end so_far) (ap (behind so_far) (sym is_it ∙ a_feed))
-              ∙ ap (on_from vars most text (machine.end so_far)) (sym (add-one end))
+              on_to ∙ past_it vars most text so_far found.end (machine.end so_far) (ap (behind so_far) (sym is_it ∙ a_feed))
+              ∙ ap (on_from vars most text (machine.end so_far)) (sym (add-one found.end))
 
-          holds_at_end : (i : ℕ) → Holds (on_from vars most text (machine.end so_far) i) (set words count term)
+          holds_at_end : (i : ℕ) → Holds (on_from vars most text (machine.end so_far) i) (set words count found.value)
           holds_at_end i =
               by_test (ltb i (length text))
-              (λ e. subst (λ (v : Verdict). Holds v (set words count term)) (sym (behind_feed most vars text i so_far (ltb-true i (length text) e))) tt)
-              (λ e. subst (λ (v : Verdict). Holds v (set words count term)) (sym (no_more_bytes most vars text i so_far (ltb-false i (length text) e)))
-              (ap (λ (k : ℕ). take k (set words count term)) counted_too ∙ held_too))
+              (λ e. subst (λ (v : Verdict). Holds v (set words count found.value)) (sym (behind_feed most vars text i so_far (ltb-true i (length text) e))) tt)
+              (λ e. subst (λ (v : Verdict). Holds v (set words count found.value)) (sym (no_more_bytes most vars text i so_far (ltb-false i (length text) e)))
+              (ap (λ (k : ℕ). take k (set words count found.value)) counted_too ∙ held_too))
 
       -- or `+`, and another term
-      pub plus_so : (b : ℕ) → b ≡ get_or text end 0 → ¬ (b ≡ feed) → Reading most vars text old (set words count term) (count + 1) (end + 1)
+      pub plus_so : (b : ℕ) → b ≡ get_or text found.end 0 → ¬ (b ≡ feed) → Reading most vars text old (set words count found.value) (count + 1) (found.end + 1)
       plus_so b is_it no_feed =
           record {
             ts = so_far;
             counted = counted_too;
             few = omega (arith, below);
             lent = reading.lent;
-            kept = length-set words count term ∙ reading.kept;
+            kept = length-set words count found.value ∙ reading.kept;
             held = held_too;
             inside = omega (arith, ends_in_text);
-            begun = rw (some reading.ts told.0) (and-false (eqb (get_or text (end + 1) 0) (digit 0)));
+            begun = rw (some reading.ts told.vs) (and-false (eqb (get_or text (found.end + 1) 0) (digit 0)));
             same =
-                on_to ∙ past_it vars most text so_far end (start so_far []) (ap (behind so_far) a_plus) ∙ ap (on_from vars most text (start so_far [])) (sym (add-one end));
+                on_to ∙ past_it vars most text so_far found.end (start so_far []) (ap (behind so_far) a_plus) ∙ ap (on_from vars most text (start so_far [])) (sym (add-one found.end));
           }
         where
-          a_plus : get_or text end 0 ≡ plus
+          a_plus : get_or text found.end 0 ≡ plus
           a_plus = no_other behind_it
             where
-              no_other : (get_or text end 0 ≡ plus) ⊎ (get_or text end 0 ≡ feed) → get_or text end 0 ≡ plus
+              no_other : (get_or text found.end 0 ≡ plus) ⊎ (get_or text found.end 0 ≡ feed) → get_or text found.end 0 ≡ plus
               no_other (inl e) = e
               no_other (inr e) = absurd (no_feed (is_it ∙ e))
 
@@ -292,13 +307,14 @@ module _ (most vars : ℕ) (text words : List ℕ) (b c : ℕ) (is_it : b ≡ ge
       (ap (λ (t : ℕ). eqb 0 most && begins_term t) (sym is_it ∙ a_zero) ∙ and-false (eqb 0 most)) (ap (moved vars (start [] [])) (sym is_it ∙ a_zero))
 
   -- without its line feed
-  pub zero_goes_on : ¬ (c ≡ feed) → Scanned most vars text words (refused 14 1 1) words
+  pub zero_goes_on : (refusal : Refusal) → ¬ (c ≡ feed) → refusal ≡ Sign 1 → Scanned most vars text words (refusal_of refusal) words
   unfolding moved
-  zero_goes_on h =
-      shown_so most vars text words words sign 1 refl
+  zero_goes_on refusal h is =
+      subst (λ (a : Answer). Scanned most vars text words a words) (sym (ap refusal_of is))
+      (shown_so most vars text words words sign 1 refl
       (behind_0
       ∙ stops vars most text machine.zero 1 (omega (arith, inside_0)) (λ _. refl) refl refl
-      (ap (λ (t : Bool). choose t (on (machine.end [])) off) (ne_eqb (get_or text 1 0) feed (λ e. h (the_next ∙ e)))))
+      (ap (λ (t : Bool). choose t (on (machine.end [])) off) (ne_eqb (get_or text 1 0) feed (λ e. h (the_next ∙ e))))))
 
   -- and with it
   pub zero_ends : (answer : Answer) → c ≡ feed → Finished most vars text 2 0 answer → Scanned most vars text words answer words
@@ -321,6 +337,3 @@ module _ (most vars : ℕ) (text words : List ℕ) (b c : ℕ) (is_it : b ≡ ge
           by_test (ltb 2 (length text))
           (λ e. subst (λ (v : Verdict). Holds v words) (sym (behind_feed most vars text 2 [] (ltb-true 2 (length text) e))) tt)
           (λ e. subst (λ (v : Verdict). Holds v words) (sym (no_more_bytes most vars text 2 [] (ltb-false 2 (length text) e))) refl)
-
-  pub two_inside : c ≡ feed → 2 ≤ length text
-  two_inside e = omega (arith, inside_if_byte text 1 (λ z. let x : ⊥ = omega arith in x))

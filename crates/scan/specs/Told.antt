@@ -1,20 +1,19 @@
 -- What the functions of a reader promise, told by the states of crate typed. Nothing here has to be believed.
-use Rattle.std.specs.Prelude.{ℕ, suc, ◌+◌, ◌*◌, ◌<◌, ◌≤◌, ◌≡◌, Bool, true, false, not, ◌&&◌, ◌||◌, ltb, eqb, List, [], ◌∷◌, ◌++◌, map, ◌⊎◌, length, take, drop, get_or}
+use Rattle.std.specs.Prelude.{ℕ, suc, ◌+◌, ◌*◌, ◌<◌, ◌≤◌, ◌≡◌, Bool, true, false, not, ◌&&◌, ◌||◌, ltb, eqb, List, [], ◌∷◌, ◌++◌, map, ◌⊎◌, length, take, drop, get_or, if◌then◌else◌, Option, Some, None, Result, MatchResult}
 use Rattle.answer.specs.declared.Answer.{Answer}
-use Rattle.answer.specs.Table.{accepted, refused}
-use Rattle.terms.specs.Order.{pick}
+use Rattle.answer.specs.declared.Refusal.{Refusal}
+use Rattle.answer.specs.declared.Refusal.TheVariants.{Sign}
+use Rattle.answer.specs.Table.{accepted, refused, refusal_of}
 use Rattle.typed.specs.Form.{letter, digit, star, plus, feed}
 use Rattle.typed.specs.Shown.{Fault, sign, twice, many, Verdict, long, shown, equation}
 use Rattle.typed.specs.Says.{mask}
 use Rattle.typed.specs.Machine.{State, start, named, number, is_digit, digit_of, none, behind, onward, reads}
 use Rattle.typed.specs.Machine as machine
 use Rattle.scan.specs.declared.Found.{Found}
-use Rattle.scan.specs.declared.Piece.{Piece}
-use Rattle.scan.specs.declared.Piece.TheVariants as piece
 
--- the digit that a byte is, or 10
-abbrev pub digit_in : ℕ → ℕ
-digit_in c = pick (is_digit c) (digit_of c) 10
+-- the digit that a byte is, if it is one
+abbrev pub digit_in : ℕ → Option ℕ
+digit_in c = if is_digit c then Some (digit_of c) else None
 
 -- how the text reads from a place on, in a state
 abbrev pub on_from : ℕ → ℕ → List ℕ → State → ℕ → Verdict
@@ -24,17 +23,26 @@ on_from vars most text s i = reads vars most s i (drop i text)
 abbrev pub more : ℕ → ℕ → ℕ → Bool
 more vars n c = is_digit c && (not (eqb n 0) && ltb (10 * n + digit_of c) vars)
 
--- the number that was found
+-- a number that was found: there is a variable of it
 pub record Counted (vars : ℕ) (text : List ℕ) (at : ℕ) (found : Found) : Type 0 where
   pub inside : found.end ≤ length text
   pub later : at ≤ found.end
-  -- there is one: whatever was read before, so is this number
-  pub read : found.value < vars → (most : ℕ) (ts : List (List ℕ)) (vs : List ℕ)
+  pub small : found.value < vars
+  -- whatever was read before, so is this number
+  pub read : (most : ℕ) (ts : List (List ℕ)) (vs : List ℕ)
       → on_from vars most text (named ts vs) at ≡ on_from vars most text (number ts vs found.value) found.end
-  -- or no equation goes on so
-  pub wrong : vars ≤ found.value → (most : ℕ) (ts : List (List ℕ)) (vs : List ℕ) → on_from vars most text (named ts vs) at ≡ shown sign found.end
   -- and the byte behind it is no digit of it
-  pub whole : found.value < vars → more vars found.value (get_or text found.end 0) ≡ false
+  pub whole : more vars found.value (get_or text found.end 0) ≡ false
+
+-- or none: no equation goes on so
+pub record Unread (vars : ℕ) (text : List ℕ) (at : ℕ) (refusal : Refusal) : Type 0 where
+  pub place : ℕ
+  pub is : refusal ≡ Sign place
+  pub wrong : (most : ℕ) (ts : List (List ℕ)) (vs : List ℕ) → on_from vars most text (named ts vs) at ≡ shown sign place
+
+-- the number that was found, or the refusal of what stands there
+abbrev pub Numbered : ℕ → List ℕ → ℕ → Result Found Refusal → Type 0
+Numbered vars text at result = MatchResult result (Counted vars text at) (Unread vars text at)
 
 -- whether a byte may stand behind a variable, and behind a term, and whether a term may begin with it
 abbrev pub ends_name : ℕ → Bool
@@ -46,13 +54,17 @@ ends_term c = eqb c plus || eqb c feed
 abbrev pub begins_term : ℕ → Bool
 begins_term c = eqb c letter || eqb c (digit 1)
 
--- the number that was found, with such a byte behind it
+-- a number that was found, with such a byte behind it
 pub record Ended (vars : ℕ) (text : List ℕ) (at : ℕ) (found : Found) : Type 0 where
   pub later : at ≤ found.end
-  pub read : found.value < vars → (most : ℕ) (ts : List (List ℕ)) (vs : List ℕ)
+  pub small : found.value < vars
+  pub read : (most : ℕ) (ts : List (List ℕ)) (vs : List ℕ)
       → on_from vars most text (named ts vs) at ≡ on_from vars most text (number ts vs found.value) found.end
-  pub wrong : vars ≤ found.value → (most : ℕ) (ts : List (List ℕ)) (vs : List ℕ) → on_from vars most text (named ts vs) at ≡ shown sign found.end
-  pub behind : found.value < vars → ends_name (get_or text found.end 0) ≡ true
+  pub behind : ends_name (get_or text found.end 0) ≡ true
+
+-- the number that was found so, or the refusal of what stands there
+abbrev pub Named : ℕ → List ℕ → ℕ → Result Found Refusal → Type 0
+Named vars text at result = MatchResult result (Ended vars text at) (Unread vars text at)
 
 -- how the text reads behind a term that ends at a place
 abbrev pub past : ℕ → ℕ → List ℕ → List (List ℕ) → ℕ → Verdict
@@ -66,17 +78,6 @@ Always most ts = Unit {0}
 abbrev pub Another : ℕ → ℕ → List (List ℕ) → Type 0
 Another c most ts = ¬ (length ts ≡ most) × ((eqb c (digit 0) && none ts) ≡ false)
 
--- the piece that was found from a place on, in the state that the terms before make
-abbrev pub Told : ℕ → (ℕ → List (List ℕ) → Type 0) → (List (List ℕ) → State) → List ℕ → ℕ → Piece → Type 0
-Told vars Before state text at (piece.Sign place) = (most : ℕ) (ts : List (List ℕ)) → Before most ts → on_from vars most text (state ts) at ≡ shown sign place
-Told vars Before state text at (piece.Twice place) = (most : ℕ) (ts : List (List ℕ)) → Before most ts → on_from vars most text (state ts) at ≡ shown twice place
-Told vars Before state text at (piece.Read term end) =
-    (vs : List ℕ)
-    × (mask vs ≡ term)
-    × (at ≤ end)
-    × ((get_or text end 0 ≡ plus) ⊎ (get_or text end 0 ≡ feed))
-    × ((most : ℕ) (ts : List (List ℕ)) → Before most ts → on_from vars most text (state ts) at ≡ past vars most text (ts ++ vs ∷ []) end)
-
 -- the four numbers for a verdict, the terms counted as they are written
 abbrev pub answer_of : Verdict → Answer
 answer_of long = refused 2 1 0
@@ -84,6 +85,26 @@ answer_of (shown sign i) = refused 14 1 i
 answer_of (shown twice i) = refused 15 1 i
 answer_of (shown many i) = refused 2 1 0
 answer_of (equation ts) = accepted (length ts)
+
+-- a term that was read from a place on, in the state that the terms before make
+pub record Term (vars : ℕ) (Before : ℕ → List (List ℕ) → Type 0) (state : List (List ℕ) → State) (text : List ℕ) (at : ℕ) (found : Found) : Type 0 where
+  pub vs : List ℕ
+  pub value : mask vs ≡ found.value
+  pub later : at ≤ found.end
+  pub ends : (get_or text found.end 0 ≡ plus) ⊎ (get_or text found.end 0 ≡ feed)
+  pub read : (most : ℕ) (ts : List (List ℕ)) → Before most ts
+      → on_from vars most text (state ts) at ≡ past vars most text (ts ++ vs ∷ []) found.end
+
+-- or none: the text shows a fault
+pub record Shows (vars : ℕ) (Before : ℕ → List (List ℕ) → Type 0) (state : List (List ℕ) → State) (text : List ℕ) (at : ℕ) (refusal : Refusal) : Type 0 where
+  pub fault : Fault
+  pub place : ℕ
+  pub numbers : refusal_of refusal ≡ answer_of (shown fault place)
+  pub wrong : (most : ℕ) (ts : List (List ℕ)) → Before most ts → on_from vars most text (state ts) at ≡ shown fault place
+
+-- the term that was read, or the refusal of what the text shows
+abbrev pub Told : ℕ → (ℕ → List (List ℕ) → Type 0) → (List (List ℕ) → State) → List ℕ → ℕ → Result Found Refusal → Type 0
+Told vars Before state text at result = MatchResult result (Term vars Before state text at) (Shows vars Before state text at)
 
 -- the words begin with the terms of an equation as written
 abbrev pub Holds : Verdict → List ℕ → Type 0

@@ -1,5 +1,6 @@
 -- The lists that the example programs make and compare.
-use Rattle.std.specs.Prelude.{ℕ, ◌*◌, ◌^◌, ◌%◌, ◌<◌, ◌≡◌, Bool, true, false, ◌&&◌, List, [], ◌∷◌, eqb, length, get_or}
+use Rattle.std.specs.Prelude.{ℕ, ◌*◌, ◌^◌, ◌%◌, ◌<◌, ◌≡◌, Bool, List, eqb, length, get_or}
+use Rattle.std.specs.List.{starts_with as starts_with_by}
 
 -- k, moved up by `shift` bits of a word
 abbrev pub moved_up : ℕ → ℕ → ℕ
@@ -11,7 +12,5 @@ pub record Counted (l : List ℕ) (n shift : ℕ) : Type 0 where
   pub each : (i : ℕ) → i < n → get_or l i 0 ≡ moved_up shift i
 
 -- the list stands at the start of the buffer
-unfoldable pub starts_with : List ℕ → List ℕ → Bool
-starts_with buffer [] = true
-starts_with [] (x ∷ l) = false
-starts_with (y ∷ buffer) (x ∷ l) = eqb y x && starts_with buffer l
+abbrev pub starts_with : List ℕ → List ℕ → Bool
+starts_with = starts_with_by eqb

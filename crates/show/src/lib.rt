@@ -1,105 +1,142 @@
-// What the programs that run the examples of RULES 7 print with: words, bytes, lists, whole buffers and the four numbers; and the
-// long lists that they make and compare. What is printed is tested, not proved.
+// What the programs that run the examples of RULES 7 print, as `{}` writes it: bytes, words, lists, whole buffers and the four numbers; and
+// the long lists that they make and compare. What is printed is tested, not proved.
 #![tactic(auto)]
 
 ghost use Rattle.std.specs.Prelude.{◌≤◌, ◌<◌, ◌≡◌, length};
 ghost use Rattle.show.specs.Lists.{Counted, starts_with};
 
-use answer::Answer;
+use answer::{Answer, Outcome};
+use std::fmt::{self, InlineText};
 
 // The number of standard output.
 const STDOUT: i32 = 1;
 
-pub fn text(t: &[u8]) {
-    io::write_all(STDOUT, t);
+// Standard output, over the C library's write alone. A piece that cannot be written is passed over, and the next one is tried: no
+// program that prints here has a status of its own.
+#[derive(Clone, Copy)]
+pub struct Out;
+
+impl Out {
+    pub fn put(self, bytes: &[u8]) {
+        let _ = io::write_all(STDOUT, bytes);
+    }
 }
 
-pub fn space() {
-    text(b" ");
+impl fmt::Write for Out {
+    fn write_str(&mut self, s: &str) -> fmt::Result {
+        self.put(s.as_bytes());
+        Ok(())
+    }
 }
 
-pub fn number(n: u64) {
-    io::print_decimal(STDOUT, n);
-}
+// A byte as two hex digits, which are one piece of what is printed.
+#[derive(Clone, Copy)]
+pub struct Hex(pub u8);
 
-pub fn print_byte(byte: u8) {
-    io::print_hex(STDOUT, byte as u64, 2);
+impl fmt::Display for Hex {
+    fn fmt<W: fmt::Write>(&self, f: &mut fmt::Formatter<W>) -> fmt::Result {
+        let byte = self.0;
+        let digits = InlineText::<2>::of(format_args!("{byte:02x}"));
+        f.write_str(digits.as_str())
+    }
 }
 
 // The bytes in hex, a space before each.
-pub fn print_bytes(bytes: &[u8]) {
-    let mut i = 0;
-    while i < bytes.len() {
-        space();
-        print_byte(bytes[i]);
-        i += 1;
+#[derive(Clone, Copy)]
+pub struct Bytes<'a>(pub &'a [u8]);
+
+impl fmt::Display for Bytes<'_> {
+    fn fmt<W: fmt::Write>(&self, f: &mut fmt::Formatter<W>) -> fmt::Result {
+        for byte in self.0 {
+            write!(f, " {}", Hex(*byte))?;
+        }
+        Ok(())
     }
 }
 
 // The words in decimal, a space before each.
-pub fn print_words(words: &[u64]) {
-    let mut i = 0;
-    while i < words.len() {
-        space();
-        number(words[i]);
-        i += 1;
+#[derive(Clone, Copy)]
+pub struct Words<'a>(pub &'a [u64]);
+
+impl fmt::Display for Words<'_> {
+    fn fmt<W: fmt::Write>(&self, f: &mut fmt::Formatter<W>) -> fmt::Result {
+        for word in self.0 {
+            write!(f, " {word}")?;
+        }
+        Ok(())
     }
 }
 
-// The four numbers, as `: 0 0 0 4`.
-pub fn print_answer(a: Answer) {
-    text(b": ");
-    number(a.code);
-    space();
-    number(a.operand);
-    space();
-    number(a.place);
-    space();
-    number(a.count);
+// The four numbers of how a call ended, as `: 0 0 0 4`.
+#[derive(Clone, Copy)]
+pub struct Numbers(pub Outcome);
+
+impl fmt::Display for Numbers {
+    fn fmt<W: fmt::Write>(&self, f: &mut fmt::Formatter<W>) -> fmt::Result {
+        let Answer {
+            code,
+            operand,
+            place,
+            count,
+        } = Answer::from(self.0);
+        write!(f, ": {code} {operand} {place} {count}")
+    }
 }
 
 // A list as RULES 7 writes it, `{1,2,5,6}`.
-pub fn print_list(words: &[u64]) {
-    text(b"{");
-    let mut i = 0;
-    while i < words.len() {
-        if 0 < i {
-            text(b",");
+#[derive(Clone, Copy)]
+pub struct Listed<'a>(pub &'a [u64]);
+
+impl fmt::Display for Listed<'_> {
+    fn fmt<W: fmt::Write>(&self, f: &mut fmt::Formatter<W>) -> fmt::Result {
+        write!(f, "{{")?;
+        for (i, word) in self.0.iter().enumerate() {
+            let comma = if i == 0 { "" } else { "," };
+            write!(f, "{comma}{word}")?;
         }
-        number(words[i]);
-        i += 1;
+        write!(f, "}}")
     }
-    text(b"}");
+}
+
+// A whole buffer: its words, and the last one once for all that are equal to it up to the end, with their number: ` 1 2 0 4 9(64)`.
+#[derive(Clone, Copy)]
+pub struct Buffer<'a>(pub &'a [u64]);
+
+impl fmt::Display for Buffer<'_> {
+    fn fmt<W: fmt::Write>(&self, f: &mut fmt::Formatter<W>) -> fmt::Result {
+        let (others, run) = self.0.split_at(last_run(self.0));
+        match run {
+            [word, _, ..] => write!(f, "{} {word}({})", Words(others), run.len()),
+            _ => write!(f, "{}", Words(self.0)),
+        }
+    }
 }
 
 // Where the words begin that are equal to the last one up to the end.
 fn last_run(words: &[u64]) -> usize
     ensures { result ≤ length words.now }
 {
-    let mut i = words.len();
-    while 0 < i {
-        if words[i - 1] != words[words.len() - 1] {
-            return i;
-        }
-        i -= 1;
-    }
-    i
+    words
+        .iter()
+        .rposition(|word| Some(word) != words.last())
+        .map_or(0, |i| i + 1)
 }
 
-// A whole buffer: its words, and the last one once for all that are equal to it up to the end, with their number: ` 1 2 0 4 9(64)`.
-pub fn print_buffer(words: &[u64]) {
-    let n = words.len();
-    let at = last_run(words);
-    if n - at < 2 {
-        print_words(words);
-        return;
+// A buffer that may begin with a long list: then the list's name, and what lies behind it.
+#[derive(Clone, Copy)]
+pub struct Long<'a> {
+    pub buffer: &'a [u64],
+    pub list: &'a [u64],
+    pub name: &'a str,
+}
+
+impl fmt::Display for Long<'_> {
+    fn fmt<W: fmt::Write>(&self, f: &mut fmt::Formatter<W>) -> fmt::Result {
+        match self.buffer.strip_prefix(self.list) {
+            Some(behind) => write!(f, "{}{}", self.name, Buffer(behind)),
+            None => write!(f, "{}", Buffer(self.buffer)),
+        }
     }
-    print_words(&words[0..at]);
-    space();
-    number(words[at]);
-    text(b"(");
-    number((n - at) as u64);
-    text(b")");
 }
 
 // Puts into each place its index, moved up by `shift` bits.
@@ -107,37 +144,14 @@ pub fn fill(terms: &mut [u64], shift: usize)
     requires { shift < 64 }
     ensures { Counted terms.new (length terms.old) shift }
 {
-    let mut i = 0;
-    while i < terms.len() {
-        terms[i] = (i as u64) << shift;
-        i += 1;
+    for (i, term) in terms.iter_mut().enumerate() {
+        *term = (i as u64) << shift;
     }
 }
 
-// Whether the list stands at the start of the buffer.
+// Whether the list stands at the start of the buffer: the library's method, in a function whose promise a wrong program is held against.
 pub fn starts_with(buffer: &[u64], terms: &[u64]) -> bool
     ensures { result ≡ starts_with buffer.now terms.now }
 {
-    if buffer.len() < terms.len() {
-        return false;
-    }
-    let mut i = 0;
-    while i < terms.len() {
-        if buffer[i] != terms[i] {
-            return false;
-        }
-        i += 1;
-    }
-    true
-}
-
-// A buffer that may begin with a long list: then the list's name, and what lies behind it.
-pub fn print_long(buffer: &[u64], list: &[u64], name: &[u8]) {
-    let n = list.len();
-    if n <= buffer.len() && starts_with(buffer, list) {
-        text(name);
-        print_buffer(&buffer[n..]);
-    } else {
-        print_buffer(buffer);
-    }
+    buffer.starts_with(terms)
 }

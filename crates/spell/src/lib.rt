@@ -3,23 +3,44 @@
 
 ghost use Rattle.std.specs.Prelude.{◌≡◌, ◌+◌, ◌≤◌, ◌<◌, length};
 ghost use Rattle.std.proofs.lemmas.List.Edits.{sets};
+ghost use Rattle.std.specs.Iterator.{YieldsFirst, item_count};
+ghost use Rattle.typed.specs.Says.{held};
 ghost use Rattle.spell.specs.Spelled.{named, spelled};
+
+// The variables of a term, from the lowest on: those that are left.
+#[derive(Drop)]
+struct Variables(u64);
+
+impl Iterator for Variables {
+    type Item = u8;
+
+    ghost next_gives = { YieldsFirst (λ s. held s.0) };
+
+    ghost remaining = { item_count (λ s. held s.0) };
+
+    fn next(&mut self) -> Option<u8> {
+        if self.0 == 0 {
+            return None;
+        }
+        let lowest = self.0.trailing_zeros() as u8;
+        self.0 &= self.0 - 1;
+        Some(lowest)
+    }
+}
 
 // Writes the name of a variable and the byte behind it, from a place on; where it ends comes back.
 fn put_name(out: &mut [u8], at: usize, variable: u8, behind: u8) -> usize
     requires { (variable < 100) × (at + length (named variable behind) ≤ length out.old) }
     ensures { (result ≡ at + length (named variable behind)) × (out.new ≡ sets out.old at (named variable behind)) }
 {
-    out[at] = b'x';
     if variable < 10 {
-        out[at + 1] = b'0' + variable;
-        out[at + 2] = behind;
-        return at + 3;
+        let end = at + 3;
+        out[at..end].copy_from_slice(&[b'x', b'0' + variable, behind]);
+        return end;
     }
-    out[at + 1] = b'0' + variable / 10;
-    out[at + 2] = b'0' + variable % 10;
-    out[at + 3] = behind;
-    at + 4
+    let end = at + 4;
+    out[at..end].copy_from_slice(&[b'x', b'0' + variable / 10, b'0' + variable % 10, behind]);
+    end
 }
 
 // Writes a term and the byte behind it, from a place on; where it ends comes back.
@@ -32,15 +53,12 @@ pub fn put_term(out: &mut [u8], from: usize, term: u64, behind: u8) -> usize
         out[from + 1] = behind;
         return from + 2;
     }
-    let mut at = from;
-    let mut left = term;
-    let mut rest = left & (left - 1);
-    while 0 < rest {
-        at = put_name(out, at, u64::trailing_zeros(left) as u8, b'*');
-        left = rest;
-        rest = left & (left - 1);
+    let mut end = from;
+    for variable in Variables(term) {
+        end = put_name(out, end, variable, b'*');
     }
-    put_name(out, at, u64::trailing_zeros(left) as u8, behind)
+    out[end - 1] = behind;
+    end
 }
 
 // How many bytes a term takes with the byte behind it, at most 30 for ten short names and 216 for 54 long ones.
@@ -50,7 +68,7 @@ pub fn term_size(term: u64) -> usize
     if term == 0 {
         return 2;
     }
-    let short = u64::count_ones(term & 1023) as usize;
-    let long = u64::count_ones(term >> 10) as usize;
+    let short = (term & 1023).count_ones() as usize;
+    let long = (term >> 10).count_ones() as usize;
     3 * short + 4 * long
 }

@@ -1,95 +1,86 @@
 // The program `split` (RULES 6): reads a block from standard input and prints its parts, or the refusal.
 // Thin over the proved library: each term of a part is spelled by the library's own writer, so the form of its text is proved (RULES 12.1).
-// That it is these bytes that come out, and the lines around them, is tested, not proved.
+// That it is these bytes that come out, and the lines around them, is tested, not proved. What cannot be written is passed over: the
+// program has no status of its own, and bin/split looks at what came out.
 #![tactic(auto)]
 
-use answer::Outcome;
+use answer::{Answer, Refusal};
+use narrow::Narrow;
+use parts::Outputs;
+use show::Out;
+use std::fmt::Write;
 use terms::TermList;
-
-// The number of standard output.
-const STDOUT: i32 = 1;
 
 // One byte more than the longest block has, so that a longer input is seen to be longer.
 const MOST_BYTES: usize = 8196;
 
-// `refused CODE OPERAND PLACE`
-fn print_refusal(outcome: Outcome) {
-    let numbers = answer::numbers(outcome);
-    io::write_all(STDOUT, b"refused ");
-    io::print_decimal(STDOUT, numbers.code);
-    io::write_all(STDOUT, b" ");
-    io::print_decimal(STDOUT, numbers.operand);
-    io::write_all(STDOUT, b" ");
-    io::print_decimal(STDOUT, numbers.place);
-    io::write_all(STDOUT, b"\n");
-}
-
 // A term and the byte behind it. The longest has 246 bytes: three for each of the first ten variables, four for each of the others.
+#[tactic(auto, using(spell::proofs::Longest::spelled_longest))]
 fn print_term(term: u64, behind: u8) {
-    let mut text = [0u8; 246];
+    let mut text = [0; 246];
     let n = spell::put_term(&mut text, 0, term, behind);
-    io::write_all(STDOUT, &text[..n]);
+    Out.put(&text[..n]);
 }
 
 // The terms of a part, ascending, a `+` behind each but the last, and a line feed behind that.
 fn print_part(part: &[u64]) {
-    let mut i = 0;
-    while i < part.len() {
-        let term = part[i];
-        i += 1;
-        if i < part.len() {
-            print_term(term, b'+');
-        } else {
-            print_term(term, b'\n');
+    if let Some((last, others)) = part.split_last() {
+        for term in others {
+            print_term(*term, b'+');
         }
+        print_term(*last, b'\n');
     }
 }
 
 // `parts K`, then a line for each part. Lengths that reach behind the terms do not occur: split's contract rules them out.
-fn print_parts(count: usize, part_terms: &[u64], part_lengths: &[u64]) {
-    io::write_all(STDOUT, b"parts ");
-    io::print_decimal(STDOUT, count as u64);
-    io::write_all(STDOUT, b"\n");
-    let mut at = 0;
-    let mut i = 0;
-    while i < count {
-        if part_lengths.len() <= i {
+fn print_parts(count: u64, part_terms: &[u64], part_lengths: &[u64]) {
+    let _ = writeln!(Out, "parts {count}");
+    let mut rest = part_terms;
+    for length in part_lengths.iter().take(count as usize) {
+        let Some((part, behind)) = rest.split_at_checked(*length as usize) else {
             return;
-        }
-        let length = part_lengths[i] as usize;
-        if part_terms.len() - at < length {
-            return;
-        }
-        let end = at + length;
-        print_part(&part_terms[at..end]);
-        at = end;
-        i += 1;
+        };
+        print_part(part);
+        rest = behind;
     }
 }
 
-// Splits the first t words and prints what comes of it. More words than there are do not occur: read's contract rules them out.
-fn split_and_print(words: &[u64], t: usize) {
-    if words.len() < t {
-        return;
-    }
-    let list = &words[0..t];
-    let mut part_terms = [0u64; TermList::MAX_TERMS + TermList::MAX_VARS];
-    let mut part_lengths = [0u64; TermList::MAX_VARS];
-    let mut work = [0u64; 4 * TermList::MAX_TERMS];
-    let ended = parts::split(list, &mut part_terms, &mut part_lengths, &mut work);
-    match ended {
-        Outcome::Done { count } => print_parts(count as usize, &part_terms, &part_lengths),
-        _ => print_refusal(ended),
+// Splits a list and prints its parts.
+fn split_list(list: &[u64]) -> Result<(), Refusal> {
+    let mut terms = [0; TermList::MAX_TERMS + TermList::MAX_VARS];
+    let mut lengths = [0; TermList::MAX_VARS];
+    let mut work = [0; 4 * TermList::MAX_TERMS];
+    let mut outputs = Outputs {
+        terms: &mut terms,
+        lengths: &mut lengths,
+        work: &mut work,
+    };
+    let count = parts::split::<Narrow>(list, &mut outputs)?;
+    print_parts(count, &terms, &lengths);
+    Ok(())
+}
+
+// Splits the list of a block and prints its parts. More words than there are do not occur: read's contract rules them out.
+fn split_block(block: &[u8]) -> Result<(), Refusal> {
+    let mut words = [0; TermList::MAX_TERMS];
+    let t = block::read(block, &mut words)?;
+    match words.get(..t as usize) {
+        Some(list) => split_list(list),
+        None => Ok(()),
     }
 }
 
 fn main() {
-    let mut bytes = [0u8; MOST_BYTES];
+    let mut bytes = [0; MOST_BYTES];
+    // not by std's readers, whose buffers are a Vec: input that fails is input that ends here, and bin/split watches its side
     let n = io::read_full(0, &mut bytes);
-    let mut list = [0u64; TermList::MAX_TERMS];
-    let ended = block::read(&bytes[..n], &mut list);
-    match ended {
-        Outcome::Done { count } => split_and_print(&list, count as usize),
-        _ => print_refusal(ended),
+    if let Err(refusal) = split_block(&bytes[..n]) {
+        let Answer {
+            code,
+            operand,
+            place,
+            ..
+        } = Answer::from(Err(refusal));
+        let _ = writeln!(Out, "refused {code} {operand} {place}");
     }
 }

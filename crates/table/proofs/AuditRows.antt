@@ -15,11 +15,11 @@ use Rattle.polys.specs.Parts.{IsParts}
 use Rattle.unique.proofs.Same.{parts_are_unique}
 use Rattle.taking.specs.Joined.{joined, lengths}
 use Rattle.terms.specs.Order.{unordered}
-use Rattle.parts.specs.Split.{Buffers}
+use Rattle.parts.specs.Split.{room_checks, Buffers}
 use Rattle.ring.specs.Same.{one_if}
 use Rattle.lists.specs.Lists.{cut, added, lent_checks}
 use Rattle.lists.proofs.Cutting.{length_of_lengths, length_joined, cut_joined}
-use Rattle.audit.specs.Audit.{long_checks, order_checks, room_checks, audit_checks, Audited, AuditEnds}
+use Rattle.audit.specs.Audit.{long_checks, order_checks, audit_checks, Audited, AuditEnds}
 use Rattle.audit.proofs.Passing.{all_passed}
 use Rattle.audit.proofs.Determined.{audit_is_determined}
 use Rattle.table.specs.Examples.{Enough, written, Holds, audits}

@@ -15,7 +15,7 @@ use Rattle.answer.specs.Table.{accepted, refused}
 use Rattle.answer.specs.Ends.{check, over}
 use Rattle.answer.specs.Checked.{Passed, Checked}
 use Rattle.answer.proofs.Ends.{ends_if_passed, ends_if_refused}
-use Rattle.answer.proofs.Checking.{refused_before}
+use Rattle.answer.proofs.Checking.{refused_behind}
 use Rattle.polys.specs.Parts.{Each}
 use Rattle.taking.specs.Joined.{joined, lengths}
 use Rattle.taking.proofs.Splitting.{joined_append, lengths_append}
@@ -197,4 +197,4 @@ undeployed_holds max_boards max_terms max_vars words ls h lent =
     let code = code_of max_boards (length words) ls in
     only_end (DeployEnds max_boards max_terms max_vars words ls lent) (deploy_is_determined max_boards max_terms max_vars words ls lent) (refused code 0 0) lent
     (ends_if_refused lent (Deployed max_terms max_vars (cut ls words) lent) _ (refused code 0 0)
-    (refused_before (lent_checks max_boards (length words) ls) _ (refused code 0 0) true (refused_by max_boards (length words) ls h) (sym h) refl) h)
+    (refused_behind (lent_checks max_boards (length words) ls) _ (refused code 0 0) (refused_by max_boards (length words) ls h) h) h)

@@ -1,4 +1,5 @@
 pub mod Copying
+pub mod Clearing
 pub mod Taking
 pub mod Splitting
 pub mod Round

@@ -22,11 +22,11 @@ use Rattle.polys.proofs.Polys.{vars_off, off_asc}
 use Rattle.splitting.proofs.Forced.{Forced}
 use Rattle.splitting.proofs.Part.{forced_start}
 use Rattle.splitting.proofs.Held.{held, vars_held, length_held, onto_held, off_held, closed_held, forced_held, onto_one, off_one, closed_one}
-use Rattle.grow.specs.Steps.{PartOfLowest, Ready}
+use Rattle.grow.specs.Steps.{PartOfLowest}
 use Rattle.answer.specs.Ends.{over}
-use Rattle.taking.specs.Steps.{Taken, TakenNext}
+use Rattle.taking.specs.Steps.{Ready, Taken, TakenNext}
 
-module _ (c all : ℕ) (work : List ℕ) (n : ℕ) (ready : Ready (take n work) work n 0 all) (free : bit_and c all ≡ 0)
+module _ (c all : ℕ) (work : List ℕ) (n : ℕ) (ready : Ready (take n work) work n all) (free : bit_and c all ≡ 0)
     (some : ¬ (bit_or c all ≡ 0)) where
   g : List ℕ
   g = take n work

@@ -2,10 +2,13 @@
 -- splitting for the parts, on the counts of products for the room.
 use Prim.Native.Nat.{ℕ, suc, ◌+◌, ◌*◌, ◌≤◌, ◌<◌}
 use mathlib.Core.Path.{◌≡◌, refl, sym, ap, ap₂, ◌∙◌, subst}
+use mathlib.Core.Bool.{Bool, false}
 use mathlib.Core.List.{List, [], ◌∷◌, ◌++◌, append_assoc, append-nil}
 use native.Mathlib.Omega.{arith}
+use borrow.Author.Tests.{eqb-false}
 use lib.Bits.{bit_and, bit_or}
 use lib.Count.{ones}
+use lib.Dec.{eqb}
 use lib.ListN.{length, get_or, take, drop, set, length-append, length-set, length-drop}
 use lib.Seq.{length-take-le}
 use Rattle.masks.specs.Bit.{without}
@@ -23,9 +26,9 @@ use Rattle.splitting.proofs.Part.{no_parts}
 use Rattle.splitting.proofs.Splits.{splits_of_closed}
 use Rattle.splitting.proofs.Growing.{Growing, growing_done, rest_falls, rest_has_fewer}
 use Rattle.unique.proofs.Counts.{sum_below_product}
-use Rattle.grow.specs.Steps.{PartOfLowest, Ready}
+use Rattle.grow.specs.Steps.{PartOfLowest}
 use Rattle.taking.specs.Joined.{joined, lengths}
-use Rattle.taking.specs.Steps.{TakenNext, Written}
+use Rattle.taking.specs.Steps.{Ready, TakenNext, Written}
 use Rattle.taking.proofs.Splitting.{Splitting, stored_one_more, noted_one_more, joined_append, joined_one, lengths_append}
 
 -- ---- the two projections along a part
@@ -69,13 +72,17 @@ length_of_lengths (q ∷ ps) = ap suc (length_of_lengths ps)
 
 -- ---- the round
 
+-- variables are left where a round begins
+pub some_left : (empty : Bool) (u v : ℕ) → empty ≡ eqb u 0 → empty ≡ false → u ≡ v → v ≡ 0 → ⊥
+some_left empty u v asked other is e = eqb-false u 0 (sym asked ∙ other) (is ∙ e)
+
 module _ (f terms lens : List ℕ) (t m : ℕ) (terms' lens' work : List ℕ) (n at k c all : ℕ)
     (s : Splitting f terms lens t m terms' lens' work n at k c all) (more : bit_or c all ≡ 0 → ⊥) (lens_room : m ≤ length lens) (terms_room : t + m ≤ length terms) where
   left : 0 < ones (bit_or c all)
   left = ones_pos (bit_or c all) more
 
   -- what the round finds in the work area
-  pub ready : Ready (take n work) work n 0 all
+  pub ready : Ready (take n work) work n all
   ready =
       record {
         list = refl;
@@ -84,7 +91,6 @@ module _ (f terms lens : List ℕ) (t m : ℕ) (terms' lens' work : List ℕ) (n
         short = s.short;
         room = s.room;
         variables = s.variables;
-        inside = refl;
       }
 
   pub length_fits : k < length lens'
@@ -97,9 +103,13 @@ module _ (f terms lens : List ℕ) (t m : ℕ) (terms' lens' work : List ℕ) (n
   pub part_fits : n ≤ length (drop at terms')
   part_fits = omega (arith, terms_fit, length-drop at terms')
 
-  module _ (filled after : List ℕ) (y part rest : ℕ)
-      (taken : TakenNext c (take n work) (drop at terms') filled after n all y part rest)
+  -- what the call of a round left, by the terms behind those written
+  module _ (lent filled after : List ℕ) (is_lent : lent ≡ drop at terms') (y part rest : ℕ)
+      (took : TakenNext c (take n work) lent filled after n all y part rest)
       (same : length after ≡ length work) (c' all' : ℕ) (c_left : c' ≡ without y c) (all_left : all' ≡ without y all) where
+    taken : TakenNext c (take n work) (drop at terms') filled after n all y part rest
+    taken = subst (λ (l : List ℕ). TakenNext c (take n work) l filled after n all y part rest) is_lent took
+
     g : List ℕ
     g = held c (take n work)
 

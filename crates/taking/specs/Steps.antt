@@ -1,6 +1,6 @@
 -- What the steps of split promise each other. Nothing here has to be believed: these records only carry the proof of split's
 -- promise (parts/specs/Split.antt) from function to function.
-use Rattle.std.specs.Prelude.{ℕ, ◌≤◌, ◌<◌, ◌≡◌, List, length, get_or, take}
+use Rattle.std.specs.Prelude.{ℕ, ◌+◌, ◌≤◌, ◌<◌, ◌≡◌, List, length, get_or, take}
 use Rattle.std.specs.Int.Bits.{bit_and}
 use Rattle.masks.specs.Bit.{without}
 use Rattle.polys.specs.List.{Asc}
@@ -14,6 +14,16 @@ use Rattle.taking.specs.Joined.{joined, lengths}
 -- every term of the list holds the variables c
 abbrev pub InEach : ℕ → List ℕ → Type 0
 InEach c l = (k : ℕ) → k < length l → bit_and c (get_or l k 0) ≡ c
+
+-- a list f, not too long to be counted, is the first n terms of the work area, which has room for three of its length; `all` are its
+-- variables
+pub record Ready (f : List ℕ) (work : List ℕ) (n all : ℕ) : Type 0 where
+  pub list : take n work ≡ f
+  pub ascends : Asc f
+  pub some : 0 < n
+  pub short : n ≤ 65535
+  pub room : n + (n + n) ≤ length work
+  pub variables : all ≡ vars f
 
 -- the part of the lowest variable of f is written into the room, and the rest stands in the work area
 pub record Taken (f room room' work' : List ℕ) (n y part rest : ℕ) : Type 0 where

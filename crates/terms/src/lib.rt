@@ -4,51 +4,53 @@
 ghost use Rattle.std.specs.Prelude.{◌≡◌, length};
 ghost use Rattle.std.specs.Int.Bits.{bit_and};
 ghost use Rattle.polys.specs.Poly.{vars};
-ghost use Rattle.terms.specs.Order.{unordered};
 ghost use Rattle.narrow.specs.Numbers.{value, numbers};
+ghost use Rattle.terms.specs.Order.{unordered};
 
-use narrow::Term;
+use narrow::Narrow;
+use term::Term;
 
-// What is known of a lent list of terms: how many there are, and which variables stand in them.
+// What is known of a lent list of terms in one word each: how many there are, and which variables stand in them.
 #[derive(Clone, Copy)]
 pub struct TermList {
     pub count: usize,
-    pub vars: Term,
+    pub vars: Narrow,
 }
 
 impl TermList {
-    // A list has at most this many terms.
+    // A list has at most this many terms, whatever their size.
     pub const MAX_TERMS: usize = 1024;
     // A variable number is below this.
-    pub const MAX_VARS: usize = Term::LINES;
+    pub const MAX_VARS: usize = Narrow::LINES;
 
     // The record of a lent list.
     pub fn of(terms: &[u64]) -> Self
         ensures { (result.count ≡ length (numbers terms.now)) × (value result.vars ≡ vars (numbers terms.now)) }
     {
         Self {
-            count: narrow::count(terms),
+            count: Narrow::count(terms),
             vars: variables(terms),
         }
     }
 }
 
 // The first index whose term is not above the one before it, or the length.
-pub fn first_unordered(terms: &[u64]) -> usize
-    ensures { result ≡ unordered (numbers terms.now) }
+pub fn first_unordered<T: Term>(terms: &[u64]) -> usize
+    ensures { result ≡ unordered (T.numbers terms.now) }
 {
-    let n = narrow::count(terms);
+    let n = T::count(terms);
     if n == 0 {
         return 0;
     }
-    let mut last = narrow::at(terms, 0);
+    let mut last = T::at(terms, 0);
     let mut i = 1;
+    // RULES 10.2 asks for this form: a loop that breaks with the first offending index, or with the length.
     let at = loop {
         if n <= i {
             break n;
         }
-        let next = narrow::at(terms, i);
-        if !narrow::less(last, next) {
+        let next = T::at(terms, i);
+        if !last.less(next) {
             break i;
         }
         last = next;
@@ -58,23 +60,20 @@ pub fn first_unordered(terms: &[u64]) -> usize
 }
 
 // The variables of a list: those that some term holds.
-pub fn variables(terms: &[u64]) -> Term
-    ensures { value result ≡ vars (numbers terms.now) }
+pub fn variables<T: Term>(terms: &[u64]) -> T
+    ensures { T.value result ≡ vars (T.numbers terms.now) }
 {
-    let mut all = narrow::none();
-    let mut i = narrow::count(terms);
-    while 0 < i {
-        i -= 1;
-        all = narrow::or(narrow::at(terms, i), all);
+    let mut all = T::none();
+    for i in (0..T::count(terms)).rev() {
+        all = T::at(terms, i).or(all);
     }
     all
 }
 
 // The variables that two lists share.
-pub fn shared(a: &[u64], b: &[u64]) -> Term
-    ensures { value result ≡ bit_and (vars (numbers a.now)) (vars (numbers b.now)) }
+pub fn shared<T: Term>(a: &[u64], b: &[u64]) -> T
+    ensures { T.value result ≡ bit_and (vars (T.numbers a.now)) (vars (T.numbers b.now)) }
 {
-    let first = TermList::of(a);
-    let second = TermList::of(b);
-    narrow::and(first.vars, second.vars)
+    let first: T = variables(a);
+    first.and(variables(b))
 }

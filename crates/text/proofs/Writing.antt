@@ -1,12 +1,12 @@
 -- The text of a term list, term by term: how many bytes it has, and where its terms come to stand. Assumes nothing.
 use mathlib.Core.Path.{◌≡◌, refl, sym, ap, ap₂, ◌∙◌}
 use mathlib.Core.List.{List, [], ◌∷◌, ◌++◌, map, append_assoc}
-use Prim.Native.Nat.{ℕ, suc, ◌+◌, ◌-◌, ◌*◌, ◌<◌, ◌≤◌}
-use native.Mathlib.Nat.{add-zero, zero-add, add_comm, pos_of_ne-zero}
-use lib.Arith.{le-zero}
+use Prim.Native.Nat.{ℕ, suc, ◌+◌, ◌*◌, ◌<◌, ◌≤◌}
+use native.Mathlib.Nat.{add-zero, zero-add, pos_of_ne-zero}
+use Rattle.std.proofs.lemmas.List.{get_or_append_left, get_or_at}
 use native.Mathlib.Numerals.{add-one}
 use native.Mathlib.Omega.{arith}
-use lib.ListN.{length, get_or, set, drop, length-append}
+use lib.ListN.{length, get_or, set, drop, length-append, drop_of_length-le}
 use lib.Seq.{sets, sets-eq, drop-cons, drop-length}
 use borrow.Author.Tests.{ltb-false}
 use Rattle.answer.specs.Ends.{over, Writes}
@@ -45,35 +45,27 @@ written_size t [] = ap length (written_last t) ∙ any_byte t feed 0 ∙ sym (ad
 written_size t (u ∷ us) =
     ap length (written_on t u us) ∙ length-append (spelled t plus) (written (u ∷ us)) ∙ ap₂ ◌+◌ (any_byte t plus 0) (written_size u us)
 
--- counted from the end: those from place i on
+-- counted term by term: those before place i
 pub record Sized (terms : List ℕ) (size i : ℕ) : Type 0 where
-  pub inside : i ≤ length terms
-  pub counted : size ≡ sizes (drop i terms)
-  pub few : size ≤ 246 * (length terms - i)
+  pub counted : size + sizes (drop i terms) ≡ sizes terms
+  pub few : size ≤ 246 * i
 
-pub sized_first : (terms : List ℕ) → Sized terms 0 (length terms)
-sized_first terms = record { inside = omega arith; counted = sym (ap sizes (drop-length terms)); few = omega arith }
+pub sized_first : (terms : List ℕ) → Sized terms 0 0
+sized_first terms = record { counted = zero-add (sizes terms); few = omega arith }
 
--- one term before them takes so many more
-pub sized_on : (terms : List ℕ) (size i more : ℕ) → Sized terms size i → 0 < i → more ≡ length (spelled (get_or terms (i - 1) 0) 0) → more ≤ 246
-    → Sized terms (size + more) (i - 1)
+-- the next term takes so many more
+pub sized_on : (terms : List ℕ) (size i more : ℕ) → Sized terms size i → i < length terms → more ≡ length (spelled (get_or terms i 0) 0) → more ≤ 246
+    → Sized terms (size + more) (i + 1)
 sized_on terms size i more s h e small =
-    record {
-      inside = omega (arith, s.inside);
-      counted =
-          ap₂ ◌+◌ s.counted e
-          ∙ add_comm (sizes (drop i terms)) (length (spelled (get_or terms (i - 1) 0) 0))
-          ∙ ap (λ (k : ℕ). length (spelled (get_or terms (i - 1) 0) 0) + sizes (drop k terms)) back
-          ∙ sym (ap sizes (drop-cons terms (i - 1) 0 (omega (arith, s.inside))));
-      few = omega (arith, s.few, s.inside);
-    }
-  where
-    back : i ≡ suc (i - 1)
-    back = omega arith
+    let first : sizes (drop i terms) ≡ length (spelled (get_or terms i 0) 0) + sizes (drop (i + 1) terms) =
+    ap sizes (drop-cons terms i 0 h) ∙ ap (λ (k : ℕ). length (spelled (get_or terms i 0) 0) + sizes (drop k terms)) (sym (add-one i))
+    in
+    record { counted = omega (arith, s.counted, e, first); few = omega (arith, s.few) }
 
-pub sized_all : (terms : List ℕ) (size i : ℕ) → Sized terms size i → i ≤ 0 → ¬ (length terms ≡ 0) → size ≡ length (written terms)
+pub sized_all : (terms : List ℕ) (size i : ℕ) → Sized terms size i → length terms ≤ i → ¬ (length terms ≡ 0) → size ≡ length (written terms)
 sized_all [] size i s h some = absurd (some refl)
-sized_all (t ∷ ts) size i s h some = s.counted ∙ ap (λ (k : ℕ). sizes (drop k (t ∷ ts))) (le-zero h) ∙ sym (written_size t ts)
+sized_all (t ∷ ts) size i s h some =
+    omega (arith, s.counted, ap sizes (drop_of_length-le (t ∷ ts) h), written_size t ts)
 
 -- zero has two
 pub zero_size : (terms : List ℕ) → length terms ≡ 0 → 2 ≡ length (written terms)
@@ -109,12 +101,12 @@ module _ (terms old out : List ℕ) (at i : ℕ) (w : Storing terms old out at i
     next_length : length (written (drop i terms)) ≡ length (spelled (get_or terms i 0) plus) + length (written (drop (suc i) terms))
     next_length = ap length next ∙ length-append (spelled (get_or terms i 0) plus) (written (drop (suc i) terms))
 
-    pub term_fits : length (written terms) ≤ length old → at + length (spelled (get_or terms i 0) plus) ≤ length out
-    term_fits h = omega (arith, h, w.ends, w.kept, next_length)
+    pub term_fits : (t : ℕ) → t ≡ get_or terms i 0 → length (written terms) ≤ length old → at + length (spelled t plus) ≤ length out
+    term_fits t is h = rw is (omega (arith, h, w.ends, w.kept, next_length))
 
-    pub storing_on : (new : List ℕ) (to : ℕ) → length new ≡ length out → to ≡ at + length (spelled (get_or terms i 0) plus)
+    stored_on : (new : List ℕ) (to : ℕ) → length new ≡ length out → to ≡ at + length (spelled (get_or terms i 0) plus)
         → new ≡ sets out at (spelled (get_or terms i 0) plus) → Storing terms old new to (i + 1)
-    storing_on new to same e f =
+    stored_on new to same e f =
         record {
           inside = omega arith;
           kept = same ∙ w.kept;
@@ -127,6 +119,11 @@ module _ (terms old out : List ℕ) (at i : ℕ) (w : Storing terms old out at i
               ∙ w.stores;
         }
 
+    pub storing_on : (t : ℕ) → t ≡ get_or terms i 0 → (new : List ℕ) (to : ℕ) → length new ≡ length out → to ≡ at + length (spelled t plus)
+        → new ≡ sets out at (spelled t plus) → Storing terms old new to (i + 1)
+    storing_on t is new to same e f =
+        stored_on new to same (e ∙ ap (λ (u : ℕ). at + length (spelled u plus)) is) (f ∙ ap (λ (u : ℕ). sets out at (spelled u plus)) is)
+
   -- the last one
   module _ (last : suc i ≡ length terms) where
     end : written (drop i terms) ≡ spelled (get_or terms i 0) feed
@@ -134,15 +131,22 @@ module _ (terms old out : List ℕ) (at i : ℕ) (w : Storing terms old out at i
         ap written (drop-cons terms i 0 w.inside ∙ ap (λ (l : List ℕ). get_or terms i 0 ∷ l) (ap (λ (k : ℕ). drop k terms) last ∙ drop-length terms))
         ∙ written_last (get_or terms i 0)
 
-    pub last_fits : length (written terms) ≤ length old → at + length (spelled (get_or terms i 0) feed) ≤ length out
-    last_fits h = omega (arith, h, w.ends, w.kept, ap length end)
+    pub last_fits : (t : ℕ) → t ≡ get_or terms i 0 → length (written terms) ≤ length old → at + length (spelled t feed) ≤ length out
+    last_fits t is h = rw is (omega (arith, h, w.ends, w.kept, ap length end))
 
-    pub storing_last : (new : List ℕ) (to : ℕ) → length (written terms) ≤ length old → to ≡ at + length (spelled (get_or terms i 0) feed)
-        → new ≡ sets out at (spelled (get_or terms i 0) feed) → Writes (written terms) old to new
-    storing_last new to h e f = (
-      e ∙ ap (λ (k : ℕ). at + k) (sym (ap length end)) ∙ w.ends,
-      f ∙ ap (sets out at) (sym end) ∙ w.stores ∙ stored_over (written terms) old h,
+    pub storing_last : (t : ℕ) → t ≡ get_or terms i 0 → (new : List ℕ) (to : ℕ) → length (written terms) ≤ length old
+        → to ≡ at + length (spelled t feed) → new ≡ sets out at (spelled t feed) → Writes (written terms) old to new
+    storing_last t is new to h e f = (
+      e ∙ ap (λ (u : ℕ). at + length (spelled u feed)) is ∙ ap (λ (k : ℕ). at + k) (sym (ap length end)) ∙ w.ends,
+      f ∙ ap (λ (u : ℕ). sets out at (spelled u feed)) is ∙ ap (sets out at) (sym end) ∙ w.stores ∙ stored_over (written terms) old h,
     )
+
+-- the terms but the last one, and the last one
+pub one_of_others : (terms others : List ℕ) (last i : ℕ) → terms ≡ others ++ last ∷ [] → i < length others → get_or others i 0 ≡ get_or terms i 0
+one_of_others terms others last i e h = sym (ap (λ (l : List ℕ). get_or l i 0) e ∙ get_or_append_left others (last ∷ []) 0 i h)
+
+pub the_last : (terms others : List ℕ) (last i : ℕ) → terms ≡ others ++ last ∷ [] → length others ≡ i → last ≡ get_or terms i 0
+the_last terms others last i e h = sym (ap (λ (l : List ℕ). get_or l i 0) e ∙ get_or_at others last [] 0 i h)
 
 -- zero
 pub zero_stored : (terms old : List ℕ) → length terms ≡ 0 → length (written terms) ≤ length old

@@ -1,44 +1,51 @@
 // How bytes of a text are printed: as they are, those that cannot be by `\n`, `\r` or their number.
+use show::Hex;
+use std::fmt;
 
-fn print_byte(byte: u8) {
-    if byte == b'\n' {
-        show::text(b"\\n");
-    } else if byte == b'\r' {
-        show::text(b"\\r");
-    } else if byte < 0x20 || 0x7e < byte {
-        show::text(b"\\x");
-        show::print_byte(byte);
-    } else {
-        show::text(&[byte]);
+#[derive(Clone, Copy)]
+struct Byte(u8);
+
+impl fmt::Display for Byte {
+    fn fmt<W: fmt::Write>(&self, f: &mut fmt::Formatter<W>) -> fmt::Result {
+        let byte = self.0;
+        match byte {
+            b'\n' => write!(f, "\\n"),
+            b'\r' => write!(f, "\\r"),
+            0x20..=0x7e => write!(f, "{}", char::from(byte)),
+            _ => write!(f, "\\x{}", Hex(byte)),
+        }
     }
 }
 
 // A text, or how many bytes one has that is too long to print, and the last of them.
-pub fn print_text(bytes: &[u8]) {
-    let n = bytes.len();
-    let mut i = 0;
-    if 256 < n {
-        show::number(n as u64);
-        show::text(b" bytes..");
-        i = n - 24;
-    }
-    while i < n {
-        print_byte(bytes[i]);
-        i += 1;
+#[derive(Clone, Copy)]
+pub struct Text<'a>(pub &'a [u8]);
+
+impl fmt::Display for Text<'_> {
+    fn fmt<W: fmt::Write>(&self, f: &mut fmt::Formatter<W>) -> fmt::Result {
+        let mut shown = self.0;
+        let n = shown.len();
+        if 256 < n {
+            write!(f, "{n} bytes..")?;
+            shown = &shown[n - 24..];
+        }
+        for byte in shown {
+            write!(f, "{}", Byte(*byte))?;
+        }
+        Ok(())
     }
 }
 
 // What lies behind a text: in short, if it is as it was.
-pub fn print_rest(rest: &[u8]) {
-    let mut i = 0;
-    while i < rest.len() {
-        if rest[i] != 0xee {
-            print_text(rest);
-            return;
+#[derive(Clone, Copy)]
+pub struct Rest<'a>(pub &'a [u8]);
+
+impl fmt::Display for Rest<'_> {
+    fn fmt<W: fmt::Write>(&self, f: &mut fmt::Formatter<W>) -> fmt::Result {
+        if self.0.iter().all(|byte| *byte == 0xee) {
+            write!(f, "\\xee({})", self.0.len())
+        } else {
+            write!(f, "{}", Text(self.0))
         }
-        i += 1;
     }
-    show::text(b"\\xee(");
-    show::number(i as u64);
-    show::text(b")");
 }

@@ -16,8 +16,10 @@ Near a d i = (0 < i) × (i ≤ length a) × (bit_xor (get_or a 0 0) (get_or a (i
 pub first_near : (a : List ℕ) (d : ℕ) → 0 < length a → Near a d 1
 first_near a d h = (omega arith, h, omega (arith, xor_self (get_or a 0 0)))
 
-pub all_near : (a : List ℕ) (d n i : ℕ) → n ≡ length a → Near a d i → n ≤ i → Run a d i
-all_near a d n i count near l = record { some = near.0; within = near.1; near = near.2; far = λ h. absurd (let e : ⊥ = omega arith in e) }
+pub all_near : (a : List ℕ) (d n i : ℕ) → n ≡ length a → Near a d i → n ≤ i → Run a d n
+all_near a d n i count near l =
+    let same : i ≡ n = omega (arith, near.1) in
+    subst (Run a d) same (record { some = near.0; within = near.1; near = near.2; far = λ h. absurd (let e : ⊥ = omega arith in e) })
 
 -- the term at i is held against the first
 module _ (a : List ℕ) (d i x y u : ℕ) (less : Bool) (near : Near a d i) (first : x ≡ get_or a 0 0) (this : y ≡ get_or a i 0) (differ : u ≡ bit_xor x y)

@@ -4,3 +4,4 @@ pub mod Cut
 pub mod Steps
 pub mod Writing
 pub mod Parting
+pub mod Here

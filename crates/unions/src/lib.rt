@@ -5,96 +5,90 @@
 
 ghost use Rattle.std.specs.Prelude.{◌*◌, ◌<◌, ◌≡◌, map, length};
 ghost use Rattle.std.specs.Int.Bits.{bit_or};
-ghost use Rattle.narrow.specs.Numbers.{value, numbers};
 ghost use Rattle.polys.specs.Poly.{times};
 ghost use Rattle.unions.specs.Unions.{Ready, Wider, Run, span};
 
-use narrow::Term;
+use term::Term;
 
 // The unions of one term with each of b.
-fn row(t: Term, b: &[u64], out: &mut [u64])
-    requires { length (numbers out.old) ≡ length (numbers b.now) }
-    ensures { numbers out.new ≡ map (bit_or (value t)) (numbers b.now) }
+fn row<T: Term>(t: T, b: &[u64], out: &mut [u64])
+    requires { length (T.numbers out.old) ≡ length (T.numbers b.now) }
+    ensures { T.numbers out.new ≡ map (bit_or (T.value t)) (T.numbers b.now) }
 {
-    let n = narrow::count(b);
-    let mut i = 0;
-    while i < n {
-        narrow::put(out, i, narrow::or(t, narrow::at(b, i)));
-        i += 1;
+    for i in 0..T::count(b) {
+        T::put(out, i, t.or(T::at(b, i)));
     }
 }
 
 // By how much the terms of a list vary: what its first and its last differ by.
-pub fn span(a: &[u64]) -> Term
-    requires { 0 < length (numbers a.now) }
-    ensures { value result ≡ span (numbers a.now) }
+pub fn span<T: Term>(a: &[u64]) -> T
+    requires { 0 < length (T.numbers a.now) }
+    ensures { T.value result ≡ span (T.numbers a.now) }
 {
-    let n = narrow::count(a);
-    narrow::xor(narrow::at(a, 0), narrow::at(a, n - 1))
+    let n = T::count(a);
+    T::at(a, 0).xor(T::at(a, n - 1))
 }
 
 // How many terms, from the first, differ from it by at most d.
-pub fn run(a: &[u64], d: Term) -> usize
-    requires { 0 < length (numbers a.now) }
-    ensures { Run (numbers a.now) (value d) result }
+pub fn run<T: Term>(a: &[u64], d: T) -> usize
+    requires { 0 < length (T.numbers a.now) }
+    ensures { Run (T.numbers a.now) (T.value d) result }
 {
-    let n = narrow::count(a);
-    let first = narrow::at(a, 0);
-    let mut i = 1;
-    while i < n {
-        if narrow::less(d, narrow::xor(first, narrow::at(a, i))) {
+    let n = T::count(a);
+    let first = T::at(a, 0);
+    for i in 1..n {
+        if d.less(first.xor(T::at(a, i))) {
             return i;
         }
-        i += 1;
     }
-    i
+    n
 }
 
 // All unions, by the runs of a in which it varies less than b: d is by how much b varies, and a varies by more. For each run
 // the lists change their parts. The list b is lent as a part of itself: handed on as it came it is copied in one piece, which stalls.
-fn by_runs(a: &[u64], b: &[u64], d: Term, out: &mut [u64])
-    requires out_len { length (numbers out.old) ≡ length (numbers a.now) * length (numbers b.now) }
-    requires wider { Wider (numbers a.now) (numbers b.now) (value d) }
-    ensures { numbers out.new ≡ times (numbers a.now) (numbers b.now) }
+fn by_runs<T: Term>(a: &[u64], b: &[u64], d: T, out: &mut [u64])
+    requires out_len { length (T.numbers out.old) ≡ length (T.numbers a.now) * length (T.numbers b.now) }
+    requires wider { Wider (T.numbers a.now) (T.numbers b.now) (T.value d) }
+    ensures { T.numbers out.new ≡ times (T.numbers a.now) (T.numbers b.now) }
 {
-    let m = narrow::count(a);
-    let n = narrow::count(b);
+    let m = T::count(a);
+    let n = T::count(b);
     let all = b.len();
     let mut at = 0;
     while at < m {
-        let from = narrow::words(at);
+        let from = T::words(at);
         let count = run(&a[from..], d);
         let to = at + count;
-        let upto = narrow::words(to);
-        let start = narrow::words(at * n);
-        let end = narrow::words(to * n);
+        let upto = T::words(to);
+        let start = T::words(at * n);
+        let end = T::words(to * n);
         if count == 1 {
-            row(narrow::at(a, at), b, &mut out[start..end]);
+            row(T::at(a, at), b, &mut out[start..end]);
             at = to;
             continue;
         }
-        let less = narrow::xor(narrow::at(a, at), narrow::at(a, to - 1));
+        let less = T::at(a, at).xor(T::at(a, to - 1));
         by_runs(&b[0..all], &a[from..upto], less, &mut out[start..end]);
         at = to;
     }
 }
 
 // All unions of a term of a with a term of b, ascending.
-pub fn unions(a: &[u64], b: &[u64], out: &mut [u64])
-    requires { Ready (numbers a.now) (numbers b.now) (length (numbers out.old)) }
-    ensures { numbers out.new ≡ times (numbers a.now) (numbers b.now) }
+pub fn unions<T: Term>(a: &[u64], b: &[u64], out: &mut [u64])
+    requires { Ready (T.numbers a.now) (T.numbers b.now) (length (T.numbers out.old)) }
+    ensures { T.numbers out.new ≡ times (T.numbers a.now) (T.numbers b.now) }
 {
-    if narrow::count(a) == 1 {
-        row(narrow::at(a, 0), b, out);
+    if T::count(a) == 1 {
+        row(T::at(a, 0), b, out);
         return;
     }
-    if narrow::count(b) == 1 {
-        row(narrow::at(b, 0), a, out);
+    if T::count(b) == 1 {
+        row(T::at(b, 0), a, out);
         return;
     }
-    let x = span(a);
-    let y = span(b);
-    if narrow::less(y, x) {
+    let x: T = span(a);
+    let y: T = span(b);
+    if y.less(x) {
         by_runs(a, b, y, out);
     } else {
         by_runs(b, a, x, out);

@@ -7,8 +7,10 @@ use mathlib.Core.Path.{◌≡◌, sym, ap, ◌∙◌, subst}
 use mathlib.Core.List.{List, [], ◌∷◌, map}
 use borrow.Author.Count.{below_more}
 use lib.Bits.{bit_or, bit_xor}
-use lib.ListN.{length, get_or, take, drop}
-use lib.Seq.{get_or-take, get_or-drop}
+use lib.ListN.{length, get_or, take, drop, length-drop}
+use lib.Seq.{get_or-take, get_or-drop, length-take-le}
+use Rattle.term.specs.Laws.{Laws}
+use Rattle.term.proofs.Places.{part_at}
 use Rattle.masks.proofs.Reflect.{∅, ◌∪◌, ◌⊕◌, ◌≐◌, ◌⇒◌, ∴◌, identity}
 use Rattle.walk.specs.Walk.{on, Alike, walked}
 use Rattle.walk.proofs.Walking.{walked_on, walked_none}
@@ -40,10 +42,23 @@ walked_along t (x ∷ b) f at h same =
     (λ k l. ap (λ (j : ℕ). get_or f j 0) (let e : at + 1 + k ≡ at + suc k = omega arith in e) ∙ same (suc k) (omega arith))
     ∙ ap on (let e : at + 1 + length b ≡ at + length (x ∷ b) = omega arith in e)
 
--- what `differences` tells of a part of the list
-pub row_along : (t : ℕ) (b f part : List ℕ) (at n all : ℕ) → at + n ≤ length f → n ≡ length b → part ≡ take (at + n - at) (drop at f)
-    → (all ≡ 0 → Alike t b part (length b)) → all ≡ 0 → on (at + n) ≡ walked (map (bit_or t) b) f at
-row_along t b f part at n all h count lent same none =
-    ap (λ (k : ℕ). on (at + k)) count
-    ∙ sym (walked_along t b f at (omega arith)
-    (λ k m. sym (ap (λ (l : List ℕ). get_or l k 0) lent ∙ get_or-take (at + n - at) (drop at f) k 0 (omega arith) ∙ get_or-drop at f k 0) ∙ same none k m))
+-- ---- a part of the list as it is lent between words
+
+module _ {numbers : List ℕ → List ℕ} {room : ℕ → ℕ} {lines : ℕ} (laws : Laws numbers room lines) (f : List ℕ) (at n : ℕ) (inside : at + n ≤ length (numbers f)) where
+  -- it lies in the words
+  pub lies : (room at ≤ room (at + n)) × (room (at + n) ≤ length f)
+  lies = (laws.room_mono at (at + n) (omega arith), laws.room_within f (at + n) inside)
+
+  module _ {x y : ℕ} (ex : x ≡ room at) (ey : y ≡ room (at + n)) where
+    -- so many terms stand in it
+    pub part_length : length (numbers (take (y - x) (drop x f))) ≡ n
+    part_length =
+        omega (arith, ap length (part_at laws at (at + n) x y f ex ey), length-take-le (at + n - at) (drop at (numbers f)) (omega (arith, length-drop at (numbers f))))
+
+    -- what `differences` tells of it
+    pub row_along : (t : ℕ) (b : List ℕ) (all : ℕ) → n ≡ length b → (all ≡ 0 → Alike t b (numbers (take (y - x) (drop x f))) (length b)) → all ≡ 0
+        → on (at + n) ≡ walked (map (bit_or t) b) (numbers f) at
+    row_along t b all count same none =
+        ap (λ (k : ℕ). on (at + k)) count
+        ∙ sym (walked_along t b (numbers f) at (omega arith)
+        (λ k m. sym (ap (λ (l : List ℕ). get_or l k 0) (part_at laws at (at + n) x y f ex ey) ∙ get_or-take (at + n - at) (drop at (numbers f)) k 0 (omega arith) ∙ get_or-drop at (numbers f) k 0) ∙ same none k m))

@@ -12,6 +12,7 @@ use lib.Bits.{bit_or}
 use lib.Dec.{ltb}
 use lib.ListN.{length, get_or, drop, drop_of_length-le}
 use lib.Seq.{drop-cons}
+use Rattle.std.specs.Prelude.{Some, Err}
 use Rattle.polys.specs.List.{Mem, Above, Asc}
 use Rattle.polys.specs.Poly.{times}
 use Rattle.polys.proofs.Lists.{above_mem, head_least, mem_at, asc_append_below}
@@ -19,6 +20,9 @@ use Rattle.polys.proofs.Polys.{times_asc, times_comm}
 use Rattle.unions.specs.Unions.{Factors}
 use Rattle.unions.proofs.Steps.{factors_swap, times_of_one}
 use Rattle.walk.specs.Walk.{Comparable, Way, on, lacks, adds, met, walked}
+use Rattle.walk.specs.Told.{Compared, way}
+use Rattle.walk.specs.declared.Difference.{Difference}
+use Rattle.walk.specs.declared.Difference.TheVariants.{Missing, Extra}
 
 -- ---- the whole product
 
@@ -109,8 +113,6 @@ module _ {a b f : List ℕ} (h : Comparable a b f) {w : Way} (went : w ≡ walke
             c,
       )
 
-  pub tells_missing : {u : ℕ} → w ≡ lacks u → Mem (times a b) u × ¬ Mem f u
-  tells_missing {u} e = tells (lacks u) e
-
-  pub tells_extra : {u : ℕ} → w ≡ adds u → Mem f u × ¬ Mem (times a b) u
-  tells_extra {u} e = tells (adds u) e
+  pub tells_difference : {T : Type 0} (value : T → ℕ) (d : Difference T) → w ≡ way value (Err d) → Compared value (times a b) f (Some d)
+  tells_difference value (Missing u) e = tells (lacks (value u)) e
+  tells_difference value (Extra u) e = tells (adds (value u)) e

@@ -1,6 +1,6 @@
 -- Laws of the walk (specs/Walk.antt): one step of it, one walk behind another, and how far it comes. Assumes nothing.
 use Prim.Native.Nat.{ℕ, ◌+◌, ◌<◌, ◌≤◌}
-use native.Mathlib.Nat.{add-zero, add_assoc}
+use native.Mathlib.Nat.{add_assoc}
 use native.Mathlib.Numerals.{add-one}
 use native.Mathlib.Omega.{arith}
 use mathlib.Core.Path.{◌≡◌, refl, sym, ap, ◌∙◌}
@@ -87,9 +87,6 @@ rest_cons t b i h = ap (map (bit_or t)) (drop-cons b i 0 h) ∙ ap (λ (k : ℕ)
 abbrev pub Left : ℕ → List ℕ → List ℕ → ℕ → ℕ → Type 0
 Left t b f at i = walked (rest t b i) f (at + i) ≡ walked (map (bit_or t) b) f at
 
-pub row_starts : (t : ℕ) (b f : List ℕ) (at : ℕ) → Left t b f at 0
-row_starts t b f at = ap (walked (map (bit_or t) b) f) (add-zero at)
-
 -- the union of t with the term v of b at i, beside the term at that place of f, if there is one
 module _ (t : ℕ) (b f : List ℕ) (at i n m : ℕ) {v u : ℕ} (all_b : n ≡ length b) (all_f : m ≡ length f) (h : i < n) (left : Left t b f at i)
     (this : v ≡ get_or b i 0) (union : u ≡ bit_or t v) where
@@ -99,19 +96,22 @@ module _ (t : ℕ) (b f : List ℕ) (at i n m : ℕ) {v u : ℕ} (all_b : n ≡ 
   pub row_ends : m ≤ at + i → lacks u ≡ walked (map (bit_or t) b) f at
   row_ends l = sym (walked_end u (rest t b (i + 1)) f (at + i) (omega arith)) ∙ head
 
-  module _ {o : ℕ} (l : at + i < m) (other : o ≡ get_or f (at + i) 0) {below : Bool} (test : below ≡ ltb u o) where
+  module _ (l : at + i < m) {o : ℕ} (other : o ≡ get_or f (at + i) 0) {below : Bool} (test : below ≡ ltb u o) where
     pub row_lacks : below ≡ true → lacks u ≡ walked (map (bit_or t) b) f at
     row_lacks e = sym (walked_lacks u (rest t b (i + 1)) f (at + i) (omega arith) (omega (arith, ltb-true u o (sym test ∙ e)))) ∙ head
 
-    pub row_adds : {above : Bool} → above ≡ ltb o u → above ≡ true → adds o ≡ walked (map (bit_or t) b) f at
-    row_adds test' e =
-        ap adds other ∙ sym (walked_adds u (rest t b (i + 1)) f (at + i) (omega arith) (omega (arith, ltb-true o u (sym test' ∙ e)))) ∙ head
+    -- where the term of f is read once more
+    module _ {p : ℕ} (again : p ≡ get_or f (at + i) 0) {above : Bool} (test' : above ≡ ltb p u) where
+      pub row_adds : above ≡ true → adds p ≡ walked (map (bit_or t) b) f at
+      row_adds e =
+          ap adds again ∙ sym (walked_adds u (rest t b (i + 1)) f (at + i) (omega arith) (omega (arith, ltb-true p u (sym test' ∙ e)))) ∙ head
 
-    pub row_on : below ≡ false → {above : Bool} → above ≡ ltb o u → above ≡ false → Left t b f at (i + 1)
-    row_on e test' e' =
-        ap (walked (rest t b (i + 1)) f) (sym (add_assoc at i 1))
-        ∙ sym (walked_on u (rest t b (i + 1)) f (at + i) (omega arith) (omega (arith, ltb-false u o (sym test ∙ e), ltb-false o u (sym test' ∙ e')))) ∙ head
+      pub row_on : below ≡ false → above ≡ false → Left t b f at (i + 1)
+      row_on e e' =
+          ap (walked (rest t b (i + 1)) f) (sym (add_assoc at i 1))
+          ∙ sym (walked_on u (rest t b (i + 1)) f (at + i) (omega arith) (omega (arith, ltb-false u o (sym test ∙ e), ltb-false p u (sym test' ∙ e')))) ∙ head
 
-pub row_done : (t : ℕ) (b f : List ℕ) (at i n : ℕ) → n ≡ length b → n ≤ i → Left t b f at i → on (at + i) ≡ walked (map (bit_or t) b) f at
+pub row_done : (t : ℕ) (b f : List ℕ) (at i n : ℕ) → n ≡ length b → i ≡ n → Left t b f at i → on (at + n) ≡ walked (map (bit_or t) b) f at
 row_done t b f at i n all h left =
-    sym (walked_none f (at + i)) ∙ ap (λ (l : List ℕ). walked (map (bit_or t) l) f (at + i)) (sym (drop_of_length-le b {i = i} (omega arith))) ∙ left
+    ap (λ (k : ℕ). on (at + k)) (sym h)
+    ∙ sym (walked_none f (at + i)) ∙ ap (λ (l : List ℕ). walked (map (bit_or t) l) f (at + i)) (sym (drop_of_length-le b {i = i} (omega arith))) ∙ left

@@ -1,10 +1,13 @@
 -- Two words read as one number, the high one in front: bit operations word by word, comparison, single bits, the lowest and the highest, and the words
 -- of a list of terms. Leans on lib.Bits' laws of blocks. Assumes nothing.
 use mathlib.Core.Path.{◌≡◌, refl, sym, ap, ap₂, ◌∙◌, subst}
-use mathlib.Core.Bool.{Bool, true, false}
+use mathlib.Core.Bool.{Bool, true, false, ◌&&◌}
+use Rattle.std.specs.Prelude.{Some, cond}
+use Rattle.std.specs.Ordering.{is_lt, is_some_and, partial_ordering_then, nat_cmp}
+use Rattle.std.proofs.Common.{Less, Equal, Greater}
 use mathlib.Core.List.{List, [], ◌∷◌}
 use Prim.Native.Nat.{ℕ, zero, suc, ◌+◌, ◌-◌, ◌*◌, ◌/◌, ◌%◌, ◌^◌, ◌≤◌, ◌<◌}
-use native.Mathlib.Nat.{not-suc-le-zero, le_of_suc-le-suc, le_of_lt, le_of_eq, le_trans, lt_of_lt_of_le, add-zero, zero-add, add_comm, zero-mul, mul_assoc, mul-le-mul_right, pow-suc}
+use native.Mathlib.Nat.{not-suc-le-zero, le_of_suc-le-suc, le_of_lt, le_of_eq, le_trans, add-zero, zero-add, add_comm, zero-mul, mul_assoc, mul-le-mul_right, pow-suc}
 use native.Mathlib.Omega.{arith}
 use borrow.Author.Tests.{lt-ltb, le-ltb, ltb-true, ltb-false, eq-eqb, ne_eqb, eqb-true, eqb-false}
 use lib.Arith.{digits_lt, mul_pred, lt_of_le-ne}
@@ -16,7 +19,7 @@ use Rattle.masks.specs.Bit.{bit, without}
 use Rattle.masks.specs.Width.{width}
 use Rattle.masks.proofs.Low.{bit_at, bit_low}
 use Rattle.masks.proofs.Width.{width_bounds, width_unique}
-use Rattle.wide.specs.Numbers.{two, numbers, lines}
+use Rattle.wide.specs.Numbers.{two, numbers}
 
 -- clearing bits, block by block
 pub off_block : (k a b r s : ℕ) → r < 2 ^ k → s < 2 ^ k
@@ -92,6 +95,34 @@ pub same_high : (k g h l m : ℕ) → l < 2 ^ k → m < 2 ^ k → (g ≡ h → �
 same_high k g h l m f e other =
     sym (ne_eqb (g * 2 ^ k + l) (h * 2 ^ k + m) (λ q. other (sym (high g k f) ∙ ap (λ (n : ℕ). n / 2 ^ k) q ∙ high h k e)))
 
+-- both words the same: the numbers are
+pub same_words : (k g h l m : ℕ) → l < 2 ^ k → m < 2 ^ k → (eqb g h && eqb l m) ≡ eqb (g * 2 ^ k + l) (h * 2 ^ k + m)
+same_words k g h l m fl fm = by (eqb g h) refl
+  where
+    by : (t : Bool) → eqb g h ≡ t → (t && eqb l m) ≡ eqb (g * 2 ^ k + l) (h * 2 ^ k + m)
+    by true e = same_low k g l m ∙ ap (λ (n : ℕ). eqb (g * 2 ^ k + l) (n * 2 ^ k + m)) (eqb-true g h e)
+    by false e = same_high k g h l m fl fm (eqb-false g h e)
+
+-- the derived order, high word first, is the order of the numbers
+pub less_words : (k g h l m : ℕ) → l < 2 ^ k → m < 2 ^ k
+    → is_some_and is_lt (partial_ordering_then (Some (nat_cmp g h)) (Some (nat_cmp l m))) ≡ ltb (g * 2 ^ k + l) (h * 2 ^ k + m)
+less_words k g h l m fl fm = by (ltb g h) (eqb g h) refl refl
+  where
+    low_only : (s t : Bool) → is_lt (cond s Less (cond t Equal Greater)) ≡ s
+    low_only true t = refl
+    low_only false true = refl
+    low_only false false = refl
+
+    by : (s t : Bool) → ltb g h ≡ s → eqb g h ≡ t
+        → is_some_and is_lt (partial_ordering_then (Some (cond s Less (cond t Equal Greater))) (Some (nat_cmp l m))) ≡ ltb (g * 2 ^ k + l) (h * 2 ^ k + m)
+    by true t e f = sym (lt-ltb (g * 2 ^ k + l) (h * 2 ^ k + m) (below k g h l m fl (ltb-true g h e)))
+    by false true e f =
+        low_only (ltb l m) (eqb l m) ∙ less_low k g l m ∙ ap (λ (n : ℕ). ltb (g * 2 ^ k + l) (n * 2 ^ k + m)) (eqb-true g h f)
+    by false false e f =
+        let other = eqb-false g h f in
+        let above : h < g = omega (arith, ltb-false g h e, other) in
+        sym (le-ltb (g * 2 ^ k + l) (h * 2 ^ k + m) (le_of_lt (below k h g m l fm above)))
+
 -- nothing in the high block
 pub low_alone : (k h l : ℕ) → h ≡ 0 → l ≡ h * 2 ^ k + l
 low_alone k h l none = sym (ap (λ (n : ℕ). n * 2 ^ k + l) none ∙ ap (λ (n : ℕ). n + l) (zero-mul (2 ^ k)) ∙ zero-add l)
@@ -125,10 +156,6 @@ low_of_high k h l i fits f =
     ∙ sym (mod-pow-add (h * 2 ^ k + l) (i - k) k)
     ∙ ap (λ (j : ℕ). (h * 2 ^ k + l) % 2 ^ j) all
 
--- two words have no bit beyond those of both
-pub two_fits : (l h : ℕ) → l < 2 ^ 64 → h < 2 ^ 64 → two l h < 2 ^ lines
-two_fits l h f g = lt_of_lt_of_le (digits_lt g f) (le_of_eq (sym (pow-add 2 64 64)))
-
 -- the highest bit lies in the high block if that has one
 pub width_high : (k h l : ℕ) → l < 2 ^ k → 0 < h → k + width h ≡ width (h * 2 ^ k + l)
 width_high k h l fits some =
@@ -149,13 +176,6 @@ width_high k h l fits some =
 
     far : (x y : ℕ) → x ≤ 2 * y → x ≤ 2 * (y + l) + 1
     far x y e = omega arith
-
--- two words hold a term
-pub length_half : (ws : List ℕ) → length (numbers ws) ≡ length ws / 2
-unfolding numbers
-length_half [] = refl
-length_half (x ∷ []) = refl
-length_half (x ∷ (y ∷ ws)) = ap suc (length_half ws) ∙ omega arith
 
 first_of : (i : ℕ) → 2 * suc i ≡ suc (suc (2 * i))
 first_of i = omega arith

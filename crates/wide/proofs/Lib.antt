@@ -1,4 +1,2 @@
 pub mod Blocks
-pub mod Laws
-pub mod Places
 pub mod Fields

@@ -1,13 +1,13 @@
 -- The numbers behind words, in the larger size: a term is two words, the low one first, and its number is both read as one.
 use Rattle.std.specs.Prelude.{ℕ, ◌+◌, ◌*◌, ◌/◌, ◌%◌, ◌^◌, List, [], ◌∷◌}
-use Rattle.wide.specs.declared.Term.{Term}
+use Rattle.wide.specs.declared.Wide.{Wide}
 
 -- the number of two words
 abbrev pub two : ℕ → ℕ → ℕ
 two low high = high * 2 ^ 64 + low
 
 -- the number of a term
-unfoldable pub value : Term → ℕ
+unfoldable pub value : Wide → ℕ
 value t = two t.low t.high
 
 -- the terms that stand in the words, two words to a term, the low one first; an odd last word is left out

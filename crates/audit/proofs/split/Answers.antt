@@ -2,5 +2,5 @@
 use Rattle.audit.proofs.Judging.{counted_by_split}
 use Rattle.audit.proofs.split.Goals as goal
 
-pub returns : goal.returns
-returns c = search counted_by_split
+pub returns-clause-splits : goal.returns-clause-splits
+returns-clause-splits c = search (counted_by_split, c.split.ensures.ends)

@@ -1,42 +1,27 @@
 -- `read_terms` writes the terms that the header announces. Assumes nothing.
 use native.Mathlib.Omega.{arith}
-use lib.ListN.{length}
 use mathlib.Core.Path.{ap₂}
 use Prim.Native.Nat.{◌*◌}
-use Rattle.narrow.specs.Numbers.{numbers}
 use Rattle.packing.proofs.Terms.{few_bits}
-use Rattle.block.proofs.Reading.{Readable, readable, terms_written}
+use Rattle.block.proofs.Reading.{readable, terms_written}
 use Rattle.block.proofs.read_terms.Goals as goal
 
 pub field-n-requires : goal.field-n-requires
-field-n-requires c =
-    -- what the checks have told
-    let told : Readable 1024 64 c.args.bytes.now (length (numbers c.args.out.now)) = readable 1024 64 c.args.bytes.now (length (numbers c.args.out.now)) c.requires in
-    omega (arith, told.whole)
+field-n-requires c = omega (arith, (readable _ _ _ _ c.requires).whole)
 
 pub field-t-requires : goal.field-t-requires
-field-t-requires c =
-    -- what the checks have told
-    let told : Readable 1024 64 c.args.bytes.now (length (numbers c.args.out.now)) = readable 1024 64 c.args.bytes.now (length (numbers c.args.out.now)) c.requires in
-    omega (arith, told.whole)
+field-t-requires c = omega (arith, (readable _ _ _ _ c.requires).whole)
 
-pub unpack-requires : goal.unpack-requires
-unpack-requires c =
-    -- what the checks have told
-    let told : Readable 1024 64 c.args.bytes.now (length (numbers c.args.out.now)) = readable 1024 64 c.args.bytes.now (length (numbers c.args.out.now)) c.requires in
-    let r = told in
+pub invariant_of-body : goal.invariant_of-body
+invariant_of-body c =
+    let told = readable _ _ _ _ c.requires in
     let n = c.field-n in
     let t = c.field-t in
-    omega (
-      arith,
-      few_bits n.result t.result (omega (arith, n.ensures, r.in_range)) (omega (arith, t.ensures, r.few)),
-      ap₂ ◌*◌ n.ensures t.ensures,
-      n.ensures,
-      r.in_range,
-      r.whole,
-      t.ensures,
-      r.fits,
-    )
+    let few = few_bits n.result t.result (omega (arith, n.ensures, told.in_range)) (omega (arith, t.ensures, told.few)) in
+    record { fits = omega (arith, few, ap₂ ◌*◌ n.ensures t.ensures, n.ensures, told.in_range, told.whole, t.ensures) }
+
+pub unpack-requires : goal.unpack-requires
+unpack-requires c = omega (arith, c.field-t.ensures, (readable _ _ _ _ c.requires).fits)
 
 pub returns : goal.returns
 returns c = search terms_written

@@ -2,14 +2,17 @@
 use Prim.Native.Nat.{ℕ, ◌+◌, ◌-◌, ◌*◌, ◌^◌}
 use mathlib.Core.Path.{◌≡◌}
 use lib.ListN.{length}
-use Rattle.narrow.specs.Numbers.{value, numbers}
 use Rattle.counts.specs.Planes.{digit, count_at, Room}
 use Rattle.counts.proofs.carry.Given as goal
 
 abbrev pub invariant-loop-c : goal.invariant-loop-c
-invariant-loop-c l =
-    (length l.planes ≡ length l.initial.planes) × Room (numbers l.planes) (λ (v : ℕ). 2 ^ l.j * digit (value l.c) v)
-    × ((v : ℕ) → count_at (numbers l.planes) v + 2 ^ l.j * digit (value l.c) v ≡ count_at (numbers l.initial.planes) v + 2 ^ l.at * digit (value l.initial.c) v)
+invariant-loop-c g l = record {
+  size : length (g.T.Term.numbers l.planes) ≡ length (g.T.Term.numbers l.initial.planes);
+  room : Room (g.T.Term.numbers l.planes) (λ (v : ℕ). 2 ^ l.j * digit (g.T.Term.value l.c) v);
+  counts : (v : ℕ)
+      → count_at (g.T.Term.numbers l.planes) v + 2 ^ l.j * digit (g.T.Term.value l.c) v
+      ≡ count_at (g.T.Term.numbers l.initial.planes) v + 2 ^ l.at * digit (g.T.Term.value l.initial.c) v;
+}
 
 abbrev pub decreases-loop-c : goal.decreases-loop-c
-decreases-loop-c l = length l.initial.planes - l.j
+decreases-loop-c g l = length (g.T.Term.numbers l.initial.planes) - l.j

@@ -1,58 +1,45 @@
--- `counts::uneven_by` multiplies both counters and compares. Assumes nothing.
+-- `counts::uneven_by` multiplies both counters and compares (Products, Comparing). Assumes nothing.
 use native.Mathlib.Omega.{arith}
 use Prim.Native.Nat.{ℕ, ◌*◌}
-use mathlib.Core.Path.{sym, ap, ◌∙◌}
-use mathlib.Core.List.{List}
-use lib.ListN.{length, replicate}
-use Rattle.narrow.specs.Numbers.{numbers, room}
-use Rattle.narrow.proofs.Laws.{numbers_zeros, numbers_same_length}
+use mathlib.Core.Path.{ap}
 use Rattle.counts.specs.Planes.{count_at}
-use Rattle.counts.proofs.Planes.{count_zeros}
 use Rattle.counts.proofs.Products.{sixteen_halves}
-use Rattle.counts.proofs.Comparing.{product_room}
+use Rattle.counts.proofs.Comparing.{product_room, from_empty}
+use Rattle.counts.proofs.Words.{empty_planes}
 use Rattle.counts.proofs.uneven_by.Goals as goal
 
 pub add_times-requires : goal.add_times-requires
-add_times-requires c =
+add_times-requires g c =
     let a = c.args in
-    let digits = numbers c.halve.new.out in
-    let zeros = numbers (replicate (room 16) 0) in
-    let size = (sixteen_halves a.n zeros digits (numbers_zeros 16) c.halve.ensures c.requires.0).0 in (
-      (0, c.of.ensures, product_room (numbers (replicate (room 32) 0)) digits (numbers a.both.now) 0 (numbers_zeros 32) size c.requires.1),
-      omega (arith, size, c.requires.1, ap length (numbers_zeros 32)),
-    )
+    let laws = g.T.Term.laws in
+    let digits = g.T.Term.numbers c.halve.new.out in
+    product_room _ digits (g.T.Term.numbers a.both.now) (g.T.Term.value c.of.result) 0 c.of.ensures
+    (empty_planes laws 32 c.words-2.result 64 c.words-2.ensures (omega arith))
+    (sixteen_halves a.n _ digits (empty_planes laws 16 c.words.result 32 c.words.ensures (omega arith)) c.halve.ensures c.requires.0).0
+    c.requires.1
 
 pub add_times-requires-2 : goal.add_times-requires-2
-add_times-requires-2 c =
+add_times-requires-2 g c =
     let a = c.args in
-    let both = numbers a.both.now in
-    let alone = numbers a.alone.now in
-    let one = c.requires.3 in (
-      (one.0, one.1, product_room (numbers (replicate (room 32) 0)) both alone one.0 (numbers_zeros 32) c.requires.1 c.requires.2),
-      omega (arith, c.requires.1, c.requires.2, ap length (numbers_zeros 32)),
-    )
-
-pub differ-requires : goal.differ-requires
-differ-requires c =
-    let right = c.add_times-2 in
-    let left = c.add_times in
-    numbers_same_length left.new.sum right.new.sum (left.auto.sum ∙ sym right.auto.sum)
+    let one = c.requires.3 in
+    product_room _ (g.T.Term.numbers a.both.now) (g.T.Term.numbers a.alone.now) (g.T.Term.value a.b) one.0 one.1
+    (empty_planes g.T.Term.laws 32 c.words-3.result 64 c.words-3.ensures (omega arith)) c.requires.1 c.requires.2
 
 pub returns : goal.returns
-returns c =
+returns g c =
     λ w v e even.
     let a = c.args in
-    let both = numbers a.both.now in
+    let laws = g.T.Term.laws in
+    let numbers = g.T.Term.numbers in
     let digits = numbers c.halve.new.out in
-    let zeros = numbers (replicate (room 16) 0) in
-    let number = (sixteen_halves a.n zeros digits (numbers_zeros 16) c.halve.ensures c.requires.0).1 in
     c.differ.ensures v
     (omega (
       arith,
       even,
-      ap (λ (k : ℕ). k * count_at both v) number,
-      (c.add_times.ensures 0 c.of.ensures).counts v,
-      (c.add_times-2.ensures w e).counts v,
-      ap (λ (l : List ℕ). count_at l v) (numbers_zeros 32),
-      count_zeros 32 v,
+      ap (λ (k : ℕ). k * count_at (numbers a.both.now) v)
+          (sixteen_halves a.n _ digits (empty_planes laws 16 c.words.result 32 c.words.ensures (omega arith)) c.halve.ensures c.requires.0).1,
+      from_empty _ (numbers c.add_times.new.sum) _ 32 (empty_planes laws 32 c.words-2.result 64 c.words-2.ensures (omega arith))
+          (c.add_times.ensures 0 c.of.ensures) v,
+      from_empty _ (numbers c.add_times-2.new.sum) _ 32 (empty_planes laws 32 c.words-3.result 64 c.words-3.ensures (omega arith))
+          (c.add_times-2.ensures w e) v,
     ))

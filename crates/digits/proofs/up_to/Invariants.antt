@@ -1,12 +1,8 @@
--- `digits::up_to` meets its contract. The loop's invariant: `value` is the field up to byte `i`. The measure is the bytes left.
--- Assumes nothing.
+-- `digits::up_to` meets its contract. The loop's invariant: `value` is the field up to the byte that comes next. Assumes nothing.
 use mathlib.Core.Path.{◌≡◌}
-use Prim.Native.Nat.{◌-◌, ◌*◌, ◌/◌, ◌≤◌, ◌<◌}
+use Prim.Native.Nat.{◌+◌, ◌-◌, ◌*◌}
 use Rattle.digits.specs.Number.{bits}
 use Rattle.digits.proofs.up_to.Given as goal
 
-abbrev pub invariant-loop-i : goal.invariant-loop-i
-invariant-loop-i l = (l.at / 8 < l.i) × ((l.i ≤ l.to) × (l.value ≡ bits l.bytes l.at (8 * l.i - l.at)))
-
-abbrev pub decreases-loop-i : goal.decreases-loop-i
-decreases-loop-i l = l.to - l.i
+abbrev pub invariant-loop-byte : goal.invariant-loop-byte
+invariant-loop-byte l = l.value ≡ bits l.bytes l.at (8 * (l.first + 1 + l.byte-index) - l.at)

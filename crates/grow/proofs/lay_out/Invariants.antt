@@ -1,15 +1,11 @@
--- `grow::lay_out` picks twice behind the list, in one pass. The invariant: what the terms passed give stands there (Laying). Assumes nothing.
-use Prim.Native.Nat.{◌≤◌, ◌-◌, ◌+◌}
+-- `grow::lay_out` picks twice, in one pass. The invariant: what the terms passed give stands in the rooms (Laying). Assumes nothing.
 use mathlib.Core.Path.{◌≡◌}
 use lib.ListN.{length}
-use Rattle.narrow.specs.Numbers.{value, numbers}
-use Rattle.grow.proofs.Laying.{Laying}
+use Rattle.grow.proofs.Laying.{Half}
 use Rattle.grow.proofs.lay_out.Given as goal
 
 abbrev pub invariant-loop-i : goal.invariant-loop-i
-invariant-loop-i l =
-    (l.i ≤ l.n) × (l.part ≤ l.i) × (l.rest ≤ l.i) × (length l.work ≡ length l.initial.work) × (l.n + (l.n + l.n) ≤ length (numbers l.work))
-    × Laying (numbers l.initial.work) l.n (value l.y) (value l.w) (value l.on) (value l.off) (numbers l.work) l.part l.rest l.i
-
-abbrev pub decreases-loop-i : goal.decreases-loop-i
-decreases-loop-i l = l.n - l.i
+invariant-loop-i g l =
+    (length l.inner ≡ length l.initial.inner) × (length l.outer ≡ length l.initial.outer)
+    × Half (g.T.Term.numbers l.inner) (g.T.Term.value l.y) (g.T.Term.value l.w) (g.T.Term.value l.off) (g.T.Term.numbers l.f) l.part l.i
+    × Half (g.T.Term.numbers l.outer) (g.T.Term.value l.w) (g.T.Term.value l.y) (g.T.Term.value l.on) (g.T.Term.numbers l.f) l.rest l.i

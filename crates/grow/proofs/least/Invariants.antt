@@ -1,11 +1,6 @@
 -- `grow::least` goes through the terms. The invariant: the least difference among those passed (Differences). Assumes nothing.
-use Prim.Native.Nat.{◌≤◌, ◌-◌}
-use Rattle.narrow.specs.Numbers.{value, numbers}
 use Rattle.grow.proofs.Differences.{Seen}
 use Rattle.grow.proofs.least.Given as goal
 
 abbrev pub invariant-loop-i : goal.invariant-loop-i
-invariant-loop-i l = (l.i ≤ l.n) × Seen (numbers l.f) (value l.y) (value l.w) (value l.on) (value l.t) l.i (value l.d)
-
-abbrev pub decreases-loop-i : goal.decreases-loop-i
-decreases-loop-i l = l.n - l.i
+invariant-loop-i g l = Seen (g.T.Term.numbers l.f) (g.T.Term.value l.y) (g.T.Term.value l.w) (g.T.Term.value l.on) (g.T.Term.value l.t) l.i (g.T.Term.value l.d)

@@ -1,54 +1,54 @@
 -- `grow::one_step` lays the list out and holds it against the product of what was picked (Standing). Assumes nothing.
 use borrow.Author.Tests.{eqb-true, eqb-false}
 use mathlib.Core.Path.{sym, ◌∙◌}
-use Rattle.narrow.specs.Numbers.{value, numbers}
-use Rattle.narrow.proofs.Laws.{numbers_same_length}
+use Rattle.grow.proofs.Rooms.{front_lent}
 use Rattle.grow.proofs.Standing.{picks_stand, whole_list, whole_if_none, ready_to_count, grows_as_said}
 use Rattle.grow.proofs.one_step.Goals as goal
 
 pub returns-then-same : goal.returns-then-same
-returns-then-same c =
-    let laid = c.lay_whole-whole in
+returns-then-same g c =
+    let v = g.T.Term.value in
+    let n = g.T.Term.numbers in
+    let laid = c.lay_whole in
     let a = c.args in
-    let all = eqb-true (value a.y) (value a.all) (sym c.same.ensures ∙ c.if-same.true) in
-    whole_list (numbers a.work.now) a.n (value a.y) (value a.all) c.requires.0 all (numbers laid.new.work) laid.result.part
-    laid.result.rest laid.ensures
+    let all = eqb-true (v a.y) (v a.all) (sym c.same.ensures ∙ c.if-same.true) in
+    whole_list (n a.f.now) (v a.y) (v a.all) c.requires.0 all (n laid.new.inner) (n laid.new.outer) laid.result.part laid.result.rest laid.ensures
 
-pub brought_by-d-requires : goal.brought_by-d-requires
-brought_by-d-requires c =
+pub brought-d-requires : goal.brought-d-requires
+brought-d-requires g c =
+    let v = g.T.Term.value in
+    let n = g.T.Term.numbers in
     let laid = c.lay_out-counts in
-    let w = c.off-w in
     let a = c.args in
-    picks_stand (numbers a.work.now) a.n (value a.y) (value a.all) (value w.result) w.ensures c.requires.0 (numbers laid.new.work)
-    laid.result.part laid.result.rest laid.ensures (numbers_same_length laid.new.work a.work.now laid.auto.work)
+    picks_stand (n a.f.now) (v a.y) (v a.all) (v c.off-w.result) c.off-w.ensures c.requires.0 (n laid.new.inner) (n laid.new.outer)
+    laid.result.part laid.result.rest laid.ensures _ _
+    (front_lent g.T.Term.laws laid.result.part c.words-part.result laid.new.inner c.words-part.ensures)
+    (front_lent g.T.Term.laws laid.result.rest c.words-rest.result laid.new.outer c.words-rest.ensures)
 
 pub returns-then-empty : goal.returns-then-empty
-returns-then-empty c =
-    let d = c.brought_by-d in
-    let w = c.off-w in
+returns-then-empty g c =
+    let v = g.T.Term.value in
+    let n = g.T.Term.numbers in
+    let laid = c.lay_out-counts in
     let a = c.args in
-    let none = eqb-true (value d.result) 0 (sym c.empty.ensures ∙ c.if-empty.true) in
-    whole_if_none (numbers a.work.now) a.n (value a.y) (value a.all) (value w.result) w.ensures c.requires.0
-    (numbers c.lay_out-counts.new.work) c.lay_out-counts.result.part c.lay_out-counts.result.rest c.lay_out-counts.ensures (value d.result) d.ensures none
+    let d = c.brought-d in
+    let none = eqb-true (v d.result) 0 (sym c.empty.ensures ∙ c.if-empty.true) in
+    whole_if_none (n a.f.now) (v a.y) (v a.all) (v c.off-w.result) c.off-w.ensures c.requires.0 (n laid.new.inner) (n laid.new.outer)
+    laid.result.part laid.result.rest laid.ensures (v d.result) d.ensures none
 
 pub counted-more-requires : goal.counted-more-requires
-counted-more-requires c =
-    let y = c.or in
-    let w = c.off-w in
+counted-more-requires g c =
+    let v = g.T.Term.value in
+    let n = g.T.Term.numbers in
     let a = c.args in
-    ready_to_count (numbers a.work.now) a.n (value a.y) (value a.all) (value w.result) w.ensures c.requires.0
-    (numbers c.lay_out-counts.new.work) c.lay_out-counts.result.part c.lay_out-counts.result.rest c.lay_out-counts.ensures
-    (value c.brought_by-d.result) (value c.lowest-x.result) (value y.result) (value c.off.result) (numbers a.alone.now)
-    (numbers_same_length c.lay_out-counts.new.work a.work.now c.lay_out-counts.auto.work) c.requires.1 c.lowest-x.ensures y.ensures c.off.ensures
+    ready_to_count (n a.f.now) (v a.y) (v a.all) (v c.off-w.result) c.off-w.ensures c.requires.0 (v c.brought-d.result) (v c.lowest.result)
+    (v c.or.result) (v c.off.result) (n a.alone.now) c.requires.1 c.lowest.ensures c.or.ensures c.off.ensures
 
 pub returns : goal.returns
-returns c =
-    let more = c.counted-more in
-    let y = c.or in
-    let d = c.brought_by-d in
-    let w = c.off-w in
+returns g c =
+    let v = g.T.Term.value in
     let a = c.args in
-    let some = eqb-false (value d.result) 0 (sym c.empty.ensures ∙ c.if-empty.false) in
-    grows_as_said (numbers a.work.now) a.n (value a.y) (value a.all) (value w.result) w.ensures c.requires.0
-    (numbers c.lay_out-counts.new.work) c.lay_out-counts.result.part c.lay_out-counts.result.rest c.lay_out-counts.ensures (value d.result)
-    (value y.result) (value more.result) (value c.or-more.result) d.ensures some y.ensures more.ensures c.or-more.ensures
+    let d = c.brought-d in
+    let some = eqb-false (v d.result) 0 (sym c.empty.ensures ∙ c.if-empty.false) in
+    grows_as_said (g.T.Term.numbers a.f.now) (v a.y) (v d.result) (v c.or.result) (v c.counted-more.result) (v c.or-2.result) d.ensures some
+    c.or.ensures c.counted-more.ensures c.or-2.ensures

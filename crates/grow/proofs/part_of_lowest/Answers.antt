@@ -1,31 +1,13 @@
 -- `grow::part_of_lowest` counts all terms once, and grows the part (Rounds). Assumes nothing.
-use borrow.Author.Rules.{rules}
-use mathlib.Core.List.{List}
-use mathlib.Core.Path.{subst}
-use Prim.Native.Nat.{ℕ, ◌-◌}
-use lib.ListN.{take}
-use Rattle.narrow.specs.Numbers.{value, numbers}
-use Rattle.narrow.proofs.Laws.{room_fits, numbers_zeros}
-use Rattle.narrow.proofs.Places.{front_at}
-use Rattle.counts.specs.Planes.{Tallied}
-use Rattle.grow.proofs.Rounds.{ready_to_tally}
+use native.Mathlib.Omega.{arith}
+use mathlib.Core.Path.{◌∙◌, ap}
+use lib.ListN.{replicate}
+use Rattle.std.proofs.lemmas.List.{take-replicate}
 use Rattle.grow.proofs.part_of_lowest.Goals as goal
 
 pub tally-requires : goal.tally-requires
-tally-requires c =
-    let a = c.args in
-    let lent = front_at a.n c.words-end.result a.work.now c.words-end.ensures in
-    let f = numbers (take (c.words-end.result - 0) a.work.now) in
-    (ready_to_tally (numbers a.work.now) a.n (value a.all) c.requires.0 f lent, numbers_zeros 16)
-
-pub grown-requires : goal.grown-requires
-grown-requires c =
-    let a = c.args in
-    let lent = front_at a.n c.words-end.result a.work.now c.words-end.ensures in
-    (c.requires.0, c.requires.1, subst (λ (f : List ℕ). Tallied f (numbers c.tally.new.planes)) lent c.tally.ensures)
-
-pub words-end-requires : goal.words-end-requires
-words-end-requires c = search (rules, room_fits c.args.work.now)
-
-pub slice_bounds-tally-end : goal.slice_bounds-tally-end
-slice_bounds-tally-end c = search (rules, room_fits c.args.work.now)
+tally-requires g c =
+    let laws = g.T.Term.laws in (
+      c.requires.0.short,
+      ap g.T.Term.numbers (take-replicate c.words.result 32 0 (omega (arith, c.words.ensures, laws.room_most 16)) ∙ ap (λ k. replicate k 0) c.words.ensures) ∙ laws.numbers_zeros 16,
+    )

@@ -1,41 +1,30 @@
 -- `lists::check_lent`: what is left of the words, and the lengths that are left, stand as the words to all lengths. Assumes nothing.
 use native.Mathlib.Omega.{arith}
-use Prim.Native.Nat.{ℕ, ◌+◌}
-use mathlib.Core.Path.{◌≡◌, refl, ap, ◌∙◌}
-use lib.ListN.{length, drop}
-use lib.Seq.{drop-length}
-use Rattle.lists.specs.Lists.{added}
-use Rattle.lists.proofs.Counting.{too_many, too_few_words, words_behind, words_match, added_from}
+use Rattle.answer.specs.declared.Refusal.TheVariants.{Short}
+use Rattle.answer.proofs.Checking.{refused_if_none}
+use Rattle.lists.proofs.Counting.{too_many, too_few_left, words_behind, words_match, left_behind}
 use Rattle.lists.proofs.check_lent.Goals as goal
 
-pub returns-then-most-n : goal.returns-then-most-n
-returns-then-most-n c = search too_many
+pub returns-then-most-lengths : goal.returns-then-most-lengths
+returns-then-most-lengths c = search too_many
 
-pub returns-then-left-length : goal.returns-then-left-length
-returns-then-left-length c =
+pub returns-in_err-left : goal.returns-in_err-left
+returns-in_err-left c =
     let a = c.args in
-    let ls = a.lengths.now in
-    too_few_words a.most a.words ls c.loop-i.invariant.0
-    (omega (arith, c.loop-i.invariant.2, added_from ls c.loop-i.i (omega arith)))
-
-pub loop-i-preserved : goal.loop-i-preserved
-loop-i-preserved c =
-    let ls = c.args.lengths.now in
-    (c.loop-i.invariant.0, omega arith, omega (arith, c.loop-i.invariant.2, added_from ls c.loop-i.i (omega arith)))
+    let told = c.in_err-left.ensures in
+    let less = rw told.ok_part at c.checked_sub.ensures in
+    rw (refused_if_none c.checked_sub.result c.from_residual.result c.in_err-left.field-0.0 (Short 0) c.from_residual.ensures.1 told.value told.ok_part)
+    (too_few_left a.most a.words a.lengths.now c.loop-length.length-index c.loop-length.left c.loop-length.invariant.few c.loop-length.invariant.rest
+    c.loop-length-test.true (omega (arith, less)))
 
 pub returns-then-left-gt0 : goal.returns-then-left-gt0
 returns-then-left-gt0 c =
-    -- behind the last length
-    let at_end : let a = c.args in c.loop-i.left + added a.lengths.now ≡ a.words = let a = c.args in let ls = a.lengths.now in let last : c.loop-i.i ≡ length ls = omega (arith, c.loop-i.invariant.1) in omega (arith, c.loop-i.invariant.2, ap (λ (k : ℕ). added (drop k ls)) last ∙ ap added (drop-length ls)) in
     let a = c.args in
-    words_behind a.most a.words a.lengths.now c.loop-i.invariant.0 (omega (arith, at_end))
+    let all = left_behind a.words a.lengths.now c.loop-length.length-index c.loop-length.left c.loop-length.invariant.rest c.loop-length-test.false in
+    words_behind a.most a.words a.lengths.now c.loop-length.invariant.few (omega (arith, all))
 
 pub returns : goal.returns
 returns c =
-    -- behind the last length
-    let at_end : let a = c.args in c.loop-i.left + added a.lengths.now ≡ a.words = let a = c.args in let ls = a.lengths.now in let last : c.loop-i.i ≡ length ls = omega (arith, c.loop-i.invariant.1) in omega (arith, c.loop-i.invariant.2, ap (λ (k : ℕ). added (drop k ls)) last ∙ ap added (drop-length ls)) in
     let a = c.args in
-    words_match a.most a.words a.lengths.now c.loop-i.invariant.0 (omega (arith, at_end))
-
-pub loop-i-init : goal.loop-i-init
-loop-i-init c = (omega arith, omega arith, refl)
+    let all = left_behind a.words a.lengths.now c.loop-length.length-index c.loop-length.left c.loop-length.invariant.rest c.loop-length-test.false in
+    words_match a.most a.words a.lengths.now c.loop-length.invariant.few (omega (arith, all))

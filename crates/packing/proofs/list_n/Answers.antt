@@ -5,7 +5,7 @@ use Prim.Native.Nat.{◌-◌}
 use Rattle.masks.specs.Width.{width}
 use Rattle.masks.proofs.Width.{width_le}
 use Rattle.narrow.specs.Numbers.{numbers, lines}
-use Rattle.narrow.proofs.Laws.{numbers_fit}
+use Rattle.narrow.specs.Laws.{numbers_fit}
 use Rattle.packing.proofs.Variables.{width_of_none, width_by_last}
 use Rattle.packing.proofs.list_n.Goals as goal
 

@@ -17,14 +17,14 @@ pub loop-k-init : goal.loop-k-init
 loop-k-init c =
     let a = c.args in
     let counted = c.count-t.ensures in
-    (counted, packed_header (numbers a.terms.now) a.n _ a.out.now _ _ (omega (arith, counted)) (omega arith) c.put-carry.ensures, omega arith)
+    (counted, packed_header (numbers a.terms.now) a.n _ a.out.now _ _ (omega (arith, counted)) (omega arith) c.put-carry.ensures)
 
 pub put_field-carry-requires : goal.put_field-carry-requires
 put_field-carry-requires c =
     let list : List ℕ = numbers c.args.terms.now in
     let count : ℕ = c.count-t.result in
-    let few : c.args.n * count ≤ 524288 = subst (λ (t : ℕ). c.args.n * t ≤ 524288) (sym c.loop-k.invariant.0) (few_bits c.args.n (length list) c.requires.1 c.requires.2) in
-    let fits : size c.args.n count ≤ length c.args.out.now = subst (λ (t : ℕ). size c.args.n t ≤ length c.args.out.now) (sym c.loop-k.invariant.0) c.requires.3 in
+    let few = few_bits c.args.n c.count-t.result c.requires.1 (omega (arith, c.count-t.ensures)) in
+    let fits : size c.args.n c.count-t.result ≤ length c.args.out.now = subst (λ (t : ℕ). size c.args.n t ≤ length c.args.out.now) (sym c.count-t.ensures) c.requires.3 in
     let l = c.loop-k in
     let behind = within c.args.n l.k count c.loop-k-test.true in (
       l.invariant.1.fits,
@@ -39,7 +39,7 @@ pub overflow_add-at : goal.overflow_add-at
 overflow_add-at c =
     let count : ℕ = c.count-t.result in
     let list : List ℕ = numbers c.args.terms.now in
-    let few : c.args.n * count ≤ 524288 = subst (λ (t : ℕ). c.args.n * t ≤ 524288) (sym c.loop-k.invariant.0) (few_bits c.args.n (length list) c.requires.1 c.requires.2) in
+    let few = few_bits c.args.n c.count-t.result c.requires.1 (omega (arith, c.count-t.ensures)) in
     omega (arith, few, within c.args.n c.loop-k.k count c.loop-k-test.true, c.loop-k.invariant.1.place)
 
 pub loop-k-preserved : goal.loop-k-preserved
@@ -49,15 +49,14 @@ loop-k-preserved c =
       l.invariant.0,
       packed_more list c.args.n _ _ l.out l.at l.carry l.k _ _ (omega (arith, l.invariant.0)) l.invariant.1
           (rw (sym c.at.ensures) c.put_field-carry.ensures),
-      omega (arith, l.invariant.0),
     )
 
 pub put-requires : goal.put-requires
 put-requires c =
     let list : List ℕ = numbers c.args.terms.now in
     let count : ℕ = c.count-t.result in
-    let few : c.args.n * count ≤ 524288 = subst (λ (t : ℕ). c.args.n * t ≤ 524288) (sym c.loop-k.invariant.0) (few_bits c.args.n (length list) c.requires.1 c.requires.2) in
-    let fits : size c.args.n count ≤ length c.args.out.now = subst (λ (t : ℕ). size c.args.n t ≤ length c.args.out.now) (sym c.loop-k.invariant.0) c.requires.3 in
+    let few = few_bits c.args.n c.count-t.result c.requires.1 (omega (arith, c.count-t.ensures)) in
+    let fits : size c.args.n c.count-t.result ≤ length c.args.out.now = subst (λ (t : ℕ). size c.args.n t ≤ length c.args.out.now) (sym c.count-t.ensures) c.requires.3 in
     -- behind the last term
     let at_end : c.loop-k.at ≡ 24 + c.args.n * count = c.loop-k.invariant.1.place ∙ ap (λ (i : ℕ). 24 + c.args.n * i) (omega (arith, c.loop-k.invariant.0)) in
     let inv = c.loop-k.invariant.1 in (
@@ -93,35 +92,35 @@ pub overflow_mul-n : goal.overflow_mul-n
 overflow_mul-n c =
     let list : List ℕ = numbers c.args.terms.now in
     let count : ℕ = c.count-t.result in
-    let few : c.args.n * count ≤ 524288 = subst (λ (t : ℕ). c.args.n * t ≤ 524288) (sym c.loop-k.invariant.0) (few_bits c.args.n (length list) c.requires.1 c.requires.2) in
+    let few = few_bits c.args.n c.count-t.result c.requires.1 (omega (arith, c.count-t.ensures)) in
     omega (arith, few)
 
 pub overflow_add-n : goal.overflow_add-n
 overflow_add-n c =
     let list : List ℕ = numbers c.args.terms.now in
     let count : ℕ = c.count-t.result in
-    let few : c.args.n * count ≤ 524288 = subst (λ (t : ℕ). c.args.n * t ≤ 524288) (sym c.loop-k.invariant.0) (few_bits c.args.n (length list) c.requires.1 c.requires.2) in
+    let few = few_bits c.args.n c.count-t.result c.requires.1 (omega (arith, c.count-t.ensures)) in
     omega (arith, few)
 
 pub overflow_add-n-2 : goal.overflow_add-n-2
 overflow_add-n-2 c =
     let list : List ℕ = numbers c.args.terms.now in
     let count : ℕ = c.count-t.result in
-    let few : c.args.n * count ≤ 524288 = subst (λ (t : ℕ). c.args.n * t ≤ 524288) (sym c.loop-k.invariant.0) (few_bits c.args.n (length list) c.requires.1 c.requires.2) in
+    let few = few_bits c.args.n c.count-t.result c.requires.1 (omega (arith, c.count-t.ensures)) in
     omega (arith, few)
 
 pub overflow_mul-n-2 : goal.overflow_mul-n-2
 overflow_mul-n-2 c =
     let list : List ℕ = numbers c.args.terms.now in
     let count : ℕ = c.count-t.result in
-    let few : c.args.n * count ≤ 524288 = subst (λ (t : ℕ). c.args.n * t ≤ 524288) (sym c.loop-k.invariant.0) (few_bits c.args.n (length list) c.requires.1 c.requires.2) in
+    let few = few_bits c.args.n c.count-t.result c.requires.1 (omega (arith, c.count-t.ensures)) in
     omega (arith, few)
 
 pub overflow_sub-n : goal.overflow_sub-n
 overflow_sub-n c =
     let list : List ℕ = numbers c.args.terms.now in
     let count : ℕ = c.count-t.result in
-    let few : c.args.n * count ≤ 524288 = subst (λ (t : ℕ). c.args.n * t ≤ 524288) (sym c.loop-k.invariant.0) (few_bits c.args.n (length list) c.requires.1 c.requires.2) in
+    let few = few_bits c.args.n c.count-t.result c.requires.1 (omega (arith, c.count-t.ensures)) in
     -- behind the last term
     let at_end : c.loop-k.at ≡ 24 + c.args.n * count = c.loop-k.invariant.1.place ∙ ap (λ (i : ℕ). 24 + c.args.n * i) (omega (arith, c.loop-k.invariant.0)) in
     omega (arith, few, at_end)

@@ -1,36 +1,32 @@
--- `papers::ask` asks whether AD = BC of what was laid out; either answer is the rule's. Assumes nothing.
+-- `papers::ask` takes the four lists off the front of the room one after another and asks whether AD = BC; either answer is the rule's.
+-- Assumes nothing.
 use native.Mathlib.Omega.{arith}
-use Prim.Native.Nat.{ℕ, ◌≤◌}
-use mathlib.Core.Path.{sym, ap, subst, ◌∙◌}
-use lib.ListN.{length}
-use Rattle.answer.specs.declared.Answer.{Answer}
-use Rattle.answer.specs.Table.{numbers_of}
-use Rattle.papers.proofs.FourLists.{four_fit}
-use Rattle.papers.proofs.Answer.{mask_of, masks_selected, apart_if_yes, together_if_no}
+use mathlib.Core.Path.{sym, subst}
+use Rattle.same.specs.Same.{SameEnds}
+use Rattle.papers.proofs.Answer.{taken_off, four_room, told}
 use Rattle.papers.proofs.ask.Goals as goal
 
-pub lay_out-ends-requires : goal.lay_out-ends-requires
-lay_out-ends-requires c =
-    let a = c.args in
-    let pre = c.requires in
-    let fits = four_fit a.list.now a.x a.y in
-    subst (λ (k : ℕ). k ≤ length a.room.now) (sym (ap length (masks_selected 64 a.x a.y a.list.now pre.low_x pre.low_y pre.other)))
-    (omega (arith, fits, pre.fits))
+pub select-end-requires : goal.select-end-requires
+select-end-requires c = omega (arith, four_room 1024 64 c.requires)
 
-pub returns-then-count-eq1 : goal.returns-then-count-eq1
-returns-then-count-eq1 c =
-    let a = c.args in
-    let laid = c.lay_out-ends in
-    let asked = c.same_products-said in
-    apart_if_yes _ _ a.list.now a.x a.y (length a.room.now) c.requires a.room.now laid.new.room laid.result.a laid.result.b laid.result.c laid.result.d
-    _ _ (mask_of 64 a.x c.requires.low_x) (mask_of 64 a.y c.requires.low_y) laid.ensures (numbers_of asked.result) asked.ensures
-    (ap (λ (x : Answer). x.count) (sym c.numbers-answer.ensures) ∙ c.if-count-eq1.true)
+pub select-end-requires-2 : goal.select-end-requires-2
+select-end-requires-2 c = omega (arith, four_room 1024 64 c.requires)
+
+pub select-end-requires-3 : goal.select-end-requires-3
+select-end-requires-3 c = omega (arith, four_room 1024 64 c.requires)
+
+pub select-end-requires-4 : goal.select-end-requires-4
+select-end-requires-4 c = omega (arith, four_room 1024 64 c.requires)
 
 pub returns : goal.returns
 returns c =
-    let a = c.args in
-    let laid = c.lay_out-ends in
-    let asked = c.same_products-said in
-    together_if_no _ _ a.list.now a.x a.y (length a.room.now) c.requires a.room.now laid.new.room laid.result.a laid.result.b laid.result.c laid.result.d
-    _ _ (mask_of 64 a.x c.requires.low_x) (mask_of 64 a.y c.requires.low_y) laid.ensures (numbers_of asked.result) asked.ensures
-    (λ e. c.if-count-eq1.false (ap (λ (x : Answer). x.count) c.numbers-answer.ensures ∙ e))
+    let cut_a = c.split_at_mut-a in
+    let cut_b = c.split_at_mut-b in
+    let cut_c = c.split_at_mut-c in
+    let cut_d = c.split_at_mut-d in
+    told 1024 64 c.requires _
+    (taken_off _ _ _ _ _ _ c.select-end.ensures cut_a.ensures.front cut_a.ensures.back)
+    (taken_off _ _ _ _ _ _ c.select-end-2.ensures cut_b.ensures.front cut_b.ensures.back)
+    (taken_off _ _ _ _ _ _ c.select-end-3.ensures cut_c.ensures.front cut_c.ensures.back)
+    (taken_off _ _ _ _ _ _ c.select-end-4.ensures cut_d.ensures.front cut_d.ensures.back)
+    (subst (SameEnds 1024 64 cut_a.result.0.now cut_d.result.0.now cut_b.result.0.now cut_c.result.0.now) (sym c.from-said.ensures) c.same_products.ensures)

@@ -1,64 +1,25 @@
+-- `papers::select`: what is selected of the terms so far stands at the start of the room, and behind it all is as it was. Assumes nothing.
 use native.Mathlib.Omega.{arith}
-use borrow.Author.Rules.{rules}
-use Prim.Native.Nat.{ℕ, ◌+◌}
-use mathlib.Core.Path.{◌≡◌, ap, ◌∙◌}
-use mathlib.Core.List.{List}
-use lib.ListN.{length, take}
-use lib.Seq.{take-length}
-use Rattle.papers.specs.Steps.{written, selected}
 use Rattle.papers.proofs.Selecting.{selecting_none, selecting_taken, selecting_left, room_for_one}
 use Rattle.papers.proofs.select.Goals as goal
 use Rattle.papers.proofs.select.Goals.{then-t-fixed, else-t-fixed}
 
-pub loop-i-init : goal.loop-i-init
-loop-i-init c =
-    let a = c.args in
-    (search rules, selecting_none a.list.now a.out.now a.at a.fixed a.value (omega (arith, c.requires)))
+pub loop-t-init : goal.loop-t-init
+loop-t-init c = search selecting_none
 
-pub offset_bounds-out-end : goal.offset_bounds-out-end
-offset_bounds-out-end c =
+pub bounds-room-end : goal.bounds-room-end
+bounds-room-end c =
     let a = c.args in
-    let here = c.loop-i in
-    let room = room_for_one a.list.now a.out.now a.at a.fixed a.value here.out here.end here.i here.invariant.1 (omega arith) c.requires c.if-t-fixed.true in
-    omega (arith, room)
+    let here = c.loop-t in
+    omega (arith, here.auto.room, room_for_one a.fixed a.value a.list.now a.room.now here.t-index here.room here.end here.invariant (omega arith) c.requires c.if-t-fixed.true)
 
-pub bounds-out-end : goal.bounds-out-end
-bounds-out-end c =
+pub loop-t-preserved : goal.loop-t-preserved
+loop-t-preserved c =
     let a = c.args in
-    let here = c.loop-i in
-    let room = room_for_one a.list.now a.out.now a.at a.fixed a.value here.out here.end here.i here.invariant.1 (omega arith) c.requires c.if-t-fixed.true in
-    room
-
-pub overflow_add-end : goal.overflow_add-end
-overflow_add-end c =
-    let a = c.args in
-    let here = c.loop-i in
-    let room = room_for_one a.list.now a.out.now a.at a.fixed a.value here.out here.end here.i here.invariant.1 (omega arith) c.requires c.if-t-fixed.true in
-    omega (arith, room)
-
-pub loop-i-preserved : goal.loop-i-preserved
-loop-i-preserved c =
-    let a = c.args in
-    let here = c.loop-i in
+    let here = c.loop-t in
     elim c.if-t-fixed.branch [
-      | then-t-fixed w ↦ (
-        search rules,
-        rw (w.out-is, w.end-is)
-            (selecting_taken a.list.now a.out.now a.at a.fixed a.value here.out here.end here.i here.invariant.1 (omega arith) c.requires w.if-t-fixed.true),
-      )
-      | else-t-fixed w ↦ (
-        search rules,
-        rw (w.out-is, w.end-is)
-            (selecting_left a.list.now a.out.now a.at a.fixed a.value here.out here.end here.i here.invariant.1 (omega arith) c.requires w.if-t-fixed.false),
-      )
+      | then-t-fixed w ↦ rw (w.room-is, w.end-is)
+          (selecting_taken a.fixed a.value a.list.now a.room.now here.t-index here.room here.end here.invariant (omega arith) c.requires w.if-t-fixed.true)
+      | else-t-fixed w ↦ rw (w.room-is, w.end-is)
+          (selecting_left a.fixed a.value a.list.now a.room.now here.t-index here.room here.end here.invariant (omega arith) c.requires w.if-t-fixed.false)
     ]
-
-pub returns : goal.returns
-returns c =
-    let a = c.args in
-    let here = c.loop-i in
-    let done : here.i ≡ length a.list.now = omega arith in
-    let all : take here.i a.list.now ≡ a.list.now = ap (λ (n : ℕ). take n a.list.now) done ∙ take-length a.list.now in (
-      here.invariant.1.ends ∙ ap (λ (l : List ℕ). a.at + length (selected a.fixed a.value l)) all,
-      here.invariant.1.stands ∙ ap (λ (l : List ℕ). written a.out.now a.at (selected a.fixed a.value l)) all,
-    )

@@ -1,10 +1,6 @@
-use Prim.Native.Nat.{◌≤◌, ◌-◌}
-use lib.ListN.{length}
+-- `papers::select`: what is selected of the terms so far stands at the start of the room, and behind it all is as it was. Assumes nothing.
 use Rattle.papers.proofs.Selecting.{Selecting}
 use Rattle.papers.proofs.select.Given as goal
 
-abbrev pub invariant-loop-i : goal.invariant-loop-i
-invariant-loop-i l = (l.i ≤ length l.list) × Selecting l.list l.initial.out l.at l.fixed l.value l.out l.end l.i
-
-abbrev pub decreases-loop-i : goal.decreases-loop-i
-decreases-loop-i l = length l.list - l.i
+abbrev pub invariant-loop-t : goal.invariant-loop-t
+invariant-loop-t l = Selecting l.fixed l.value l.list l.initial.room l.t-index l.room l.end

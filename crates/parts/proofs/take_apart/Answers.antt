@@ -1,31 +1,31 @@
 -- `parts::take_apart` leaves what acceptance asks. Assumes nothing.
 use lib.ListN.{length}
-use Rattle.narrow.specs.Numbers.{value, numbers, lines}
-use Rattle.narrow.proofs.Laws.{numbers_fit, numbers_same_length}
 use Rattle.parts.proofs.Passing.{some, list_fits, ready, parts_left}
 use Rattle.parts.proofs.take_apart.Goals as goal
 
 pub write_parts-count-requires : goal.write_parts-count-requires
-write_parts-count-requires c =
+write_parts-count-requires g c =
     let a = c.args in
-    ready 1024 lines (numbers a.list.now) (length (numbers a.part_terms.now)) (length a.part_lengths.now) (length (numbers a.work.now)) c.requires
-    c.count-t.result lines c.count-t.ensures (numbers a.work.now) (numbers c.put_off.new.room) (value c.common-held.result)
-    c.common-held.ensures (numbers_fit a.list.now (λ i. (c.type_inv.list i).fits)) c.put_off.ensures
-    (numbers_same_length c.put_off.new.room a.work.now c.put_off.auto.room)
+    let o = a.outputs.now in
+    ready 1024 g.T.Term.LINES (g.T.Term.numbers a.list.now) (length (g.T.Term.numbers o.terms.now)) (length o.lengths.now) (length (g.T.Term.numbers o.work.now)) c.requires
+    c.count-t.result g.T.Term.LINES c.count-t.ensures (g.T.Term.numbers o.work.now) (g.T.Term.numbers c.put_off.new.room) (g.T.Term.value c.common-held.result)
+    c.common-held.ensures (g.T.Term.laws.numbers_fit a.list.now (λ i. (c.type_inv.list i).fits)) c.put_off.ensures
+    (g.T.Term.laws.numbers_same_length c.put_off.new.room o.work.now c.put_off.auto.room)
 
-pub returns : goal.returns
-returns c =
+pub returns-clause-splits : goal.returns-clause-splits
+returns-clause-splits g c =
     let a = c.args in
+    let o = a.outputs.now in
     let words = c.put_off.new.room in
     let used = c.write_parts-count.new.work in
-    parts_left 1024 lines (numbers a.list.now) (numbers a.part_terms.now) a.part_lengths.now (numbers a.work.now) (numbers words)
-    (numbers c.write_parts-count.new.part_terms) c.write_parts-count.new.part_lengths (numbers used) (numbers c.clear.new.work) (value c.common-held.result)
+    parts_left 1024 g.T.Term.LINES (g.T.Term.numbers a.list.now) (g.T.Term.numbers o.terms.now) o.lengths.now (g.T.Term.numbers o.work.now) (g.T.Term.numbers words)
+    (g.T.Term.numbers c.write_parts-count.new.part_terms) c.write_parts-count.new.part_lengths (g.T.Term.numbers used) (g.T.Term.numbers c.clear.new.work) (g.T.Term.value c.common-held.result)
     c.count-t.result c.write_parts-count.result c.count-t.ensures c.requires c.common-held.ensures c.put_off.ensures
-    (numbers_same_length words a.work.now c.put_off.auto.room) c.write_parts-count.ensures
-    (numbers_same_length used words c.write_parts-count.auto.work) c.clear.ensures
+    (g.T.Term.laws.numbers_same_length words o.work.now c.put_off.auto.room) c.write_parts-count.ensures
+    (g.T.Term.laws.numbers_same_length used words c.write_parts-count.auto.work) c.clear.ensures
 
 pub common-held-requires : goal.common-held-requires
-common-held-requires c = search some
+common-held-requires g c = search some
 
 pub put_off-requires : goal.put_off-requires
-put_off-requires c = search list_fits
+put_off-requires g c = search list_fits

@@ -3,14 +3,13 @@
 use Prim.Native.Nat.{ℕ, ◌≤◌, ◌<◌, ◌-◌}
 use mathlib.Core.Path.{◌≡◌}
 use lib.ListN.{length, get_or}
-use Rattle.narrow.specs.Numbers.{value, numbers}
 use Rattle.ring.specs.Lone.{Even}
 use Rattle.runs.proofs.matched.Given as goal
 
 abbrev pub invariant-loop-i : goal.invariant-loop-i
-invariant-loop-i l =
-    (l.i ≤ length (numbers l.d)) × (l.n ≡ length (numbers l.d)) × (length (numbers l.d) ≡ length (numbers l.c))
-    × ((j : ℕ) → j < l.i → Even l.k (value l.u) (get_or (numbers l.d) j 0) (value l.v) (get_or (numbers l.c) j 0))
+invariant-loop-i g l =
+    (l.i ≤ length (g.T.Term.numbers l.d)) × (l.n ≡ length (g.T.Term.numbers l.d)) × (length (g.T.Term.numbers l.d) ≡ length (g.T.Term.numbers l.c))
+    × ((j : ℕ) → j < l.i → Even l.k (g.T.Term.value l.u) (get_or (g.T.Term.numbers l.d) j 0) (g.T.Term.value l.v) (get_or (g.T.Term.numbers l.c) j 0))
 
 abbrev pub decreases-loop-i : goal.decreases-loop-i
-decreases-loop-i l = length (numbers l.d) - l.i
+decreases-loop-i g l = length (g.T.Term.numbers l.d) - l.i

@@ -2,4 +2,4 @@
 use Rattle.runs.proofs.vary.Goals as goal
 
 pub returns : goal.returns
-returns c = cc
+returns g c = cc

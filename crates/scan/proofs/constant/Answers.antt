@@ -5,5 +5,5 @@ use Rattle.scan.proofs.constant.Goals as goal
 pub returns-then-ends_term : goal.returns-then-ends_term
 returns-then-ends_term c = search constant_ends
 
-pub returns : goal.returns
-returns c = search constant_goes_on
+pub returns-else-ends_term : goal.returns-else-ends_term
+returns-else-ends_term c = search constant_goes_on

@@ -5,5 +5,5 @@ use Rattle.scan.proofs.full.Goals as goal
 pub returns-then-begins_term : goal.returns-then-begins_term
 returns-then-begins_term c = search one_too_many
 
-pub returns : goal.returns
-returns c = search none_too_many
+pub returns-else-begins_term : goal.returns-else-begins_term
+returns-else-begins_term c = search none_too_many

@@ -1,43 +1,30 @@
 -- `product` meets its contract: variable by variable to the byte that ends the term. Assumes nothing.
-use Prim.Native.Nat.{◌<◌}
-use native.Mathlib.Omega.{arith}
-use lib.ListN.{length}
 use Rattle.masks.proofs.Low.{one_shifted}
-use Rattle.scan.proofs.Products.{name_inside, going_first, no_name, again, term_ends, no_variable, goes_on}
+use Rattle.scan.proofs.Products.{going_first, again, term_ends, no_variable, goes_on}
 use Rattle.scan.proofs.product.Goals as goal
 
-pub overflow_add-next : goal.overflow_add-next
-overflow_add-next c =
-    -- a variable that was found ends inside the text
-    let ends_inside : c.variable-found.result.end < length c.args.text.now = name_inside 64 c.args.text.now c.loop-from.at c.variable-found.result c.variable-found.ensures (omega arith) in
-    omega (arith, ends_inside)
-
-pub overflow_add-at : goal.overflow_add-at
-overflow_add-at c =
-    -- a variable that was found ends inside the text
-    let ends_inside : c.variable-found.result.end < length c.args.text.now = name_inside 64 c.args.text.now c.loop-from.at c.variable-found.result c.variable-found.ensures (omega arith) in
-    omega (arith, ends_inside)
-
-pub loop-from-smaller : goal.loop-from-smaller
-loop-from-smaller c =
-    -- a variable that was found ends inside the text
-    let ends_inside : c.variable-found.result.end < length c.args.text.now = name_inside 64 c.args.text.now c.loop-from.at c.variable-found.result c.variable-found.ensures (omega arith) in
-    omega (arith, ends_inside, c.variable-found.ensures.later)
-
-pub loop-from-init : goal.loop-from-init
-loop-from-init c = search going_first
-
-pub returns-then-value : goal.returns-then-value
-returns-then-value c = search no_name
+pub loop-value-init : goal.loop-value-init
+loop-value-init c = search going_first
 
 pub returns-then-term-bit-ne0 : goal.returns-then-term-bit-ne0
-returns-then-term-bit-ne0 c = search (again, one_shifted)
+returns-then-term-bit-ne0 c =
+    let ended = c.in_ok-value.ensures in
+    again _ _ _ _ _ c.in_ok-value.field-0 c.loop-value.invariant ended _ (one_shifted 64 c.in_ok-value.field-0.value ended.small) c.if-term-bit-ne0.true
 
 pub returns-then-byte_at-ne42 : goal.returns-then-byte_at-ne42
-returns-then-byte_at-ne42 c = search (term_ends, one_shifted)
+returns-then-byte_at-ne42 c =
+    let ended = c.in_ok-value.ensures in
+    term_ends _ _ _ _ _ c.in_ok-value.field-0 c.loop-value.invariant ended _ (one_shifted 64 c.in_ok-value.field-0.value ended.small)
+    c.if-term-bit-ne0.false _ c.byte_at.ensures c.if-byte_at-ne42.true
 
 pub returns-then-byte_at-ne120 : goal.returns-then-byte_at-ne120
-returns-then-byte_at-ne120 c = search (no_variable, one_shifted)
+returns-then-byte_at-ne120 c =
+    let ended = c.in_ok-value.ensures in
+    no_variable _ _ _ _ _ c.in_ok-value.field-0 c.loop-value.invariant ended _ (one_shifted 64 c.in_ok-value.field-0.value ended.small)
+    c.if-term-bit-ne0.false _ c.byte_at.ensures c.if-byte_at-ne42.false _ _ c.byte_at-in-loop-value.ensures c.if-byte_at-ne120.true c.sign.ensures
 
-pub loop-from-preserved : goal.loop-from-preserved
-loop-from-preserved c = search (goes_on, one_shifted)
+pub loop-value-preserved : goal.loop-value-preserved
+loop-value-preserved c =
+    let ended = c.in_ok-value.ensures in
+    goes_on _ _ _ _ _ c.in_ok-value.field-0 c.loop-value.invariant ended _ (one_shifted 64 c.in_ok-value.field-0.value ended.small)
+    c.if-term-bit-ne0.false _ c.byte_at.ensures c.if-byte_at-ne42.false _ c.byte_at-in-loop-value.ensures c.if-byte_at-ne120.false

@@ -4,8 +4,8 @@ use lib.ListN.{length}
 use Rattle.scan.proofs.Products.{Going}
 use Rattle.scan.proofs.product.Given as goal
 
-abbrev pub invariant-loop-from : goal.invariant-loop-from
-invariant-loop-from l = Going 64 l.text l.from l.term l.at
+abbrev pub invariant-loop-value : goal.invariant-loop-value
+invariant-loop-value l = Going 64 l.text l.from l.term l.at
 
-abbrev pub decreases-loop-from : goal.decreases-loop-from
-decreases-loop-from l = length l.text - l.at
+abbrev pub decreases-loop-value : goal.decreases-loop-value
+decreases-loop-value l = length l.text - l.at

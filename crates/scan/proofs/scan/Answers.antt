@@ -1,16 +1,13 @@
 -- `scan` meets its contract: a text that begins with `0` has nothing but the line feed behind it. Assumes nothing.
-use Rattle.scan.proofs.Sums.{zero_goes_on, zero_ends, two_inside}
+use Rattle.scan.proofs.Sums.{zero_goes_on, zero_ends}
 use Rattle.scan.proofs.scan.Goals as goal
 
-pub finish-requires : goal.finish-requires
-finish-requires c =
-    let second = c.byte_at-2 in
-    let first = c.byte_at in
-    let a = c.args in
-    two_inside 1024 64 a.text.now a.words.now first.result second.result first.ensures c.if-byte_at-ne48.false second.ensures c.if-byte_at-ne10.false
+pub returns-in-48-eq10 : goal.returns-in-48-eq10
+returns-in-48-eq10 c =
+    let i = c.in-48-eq10 in
+    zero_ends _ _ _ _ _ _ c.byte_at.ensures i.is-0 c.byte_at-2.ensures _ i.is-1 c.finish.ensures
 
-pub returns-then-byte_at-ne10 : goal.returns-then-byte_at-ne10
-returns-then-byte_at-ne10 c = search zero_goes_on
-
-pub returns : goal.returns
-returns c = search zero_ends
+pub returns-in-48-default : goal.returns-in-48-default
+returns-in-48-default c =
+    let i = c.in-48-default in
+    zero_goes_on _ _ _ _ _ _ c.byte_at.ensures i.is-0 c.byte_at-2.ensures _ i.is-1.1 c.sign.ensures

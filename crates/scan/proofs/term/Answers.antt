@@ -1,24 +1,14 @@
 -- `term` meets its contract: a term begins with `x` or is `1`. Assumes nothing.
 use native.Mathlib.Omega.{arith}
-use Rattle.scan.proofs.Steps.{inside_if_byte}
 use Rattle.scan.proofs.Sums.{begins_with_x, begins_with_1, begins_with_none}
 use Rattle.scan.proofs.term.Goals as goal
 
-pub product-requires : goal.product-requires
-product-requires c =
-    let a = c.args in
-    omega (arith, inside_if_byte a.text.now a.at (λ z. let x : ⊥ = omega (arith, c.if-byte-eq120.true, c.byte_at-byte.ensures) in x))
+pub returns-in-120 : goal.returns-in-120
+returns-in-120 c = begins_with_x _ _ _ _ c.byte_at.ensures c.in-120.is _ c.product.ensures
 
-pub constant-requires : goal.constant-requires
-constant-requires c =
-    let a = c.args in
-    omega (arith, inside_if_byte a.text.now a.at (λ z. let x : ⊥ = omega (arith, c.if-byte-eq49.true, c.byte_at-byte.ensures) in x))
+pub returns-in-49 : goal.returns-in-49
+returns-in-49 c = begins_with_1 _ _ _ _ c.byte_at.ensures c.in-49.is _ c.constant.ensures
 
-pub returns-then-byte-eq120 : goal.returns-then-byte-eq120
-returns-then-byte-eq120 c = search begins_with_x
-
-pub returns-then-byte-eq49 : goal.returns-then-byte-eq49
-returns-then-byte-eq49 c = search begins_with_1
-
-pub returns : goal.returns
-returns c = search begins_with_none
+pub returns-in_default : goal.returns-in_default
+returns-in_default c =
+    begins_with_none _ _ _ _ c.byte_at.ensures _ c.requires (λ e. omega arith) (λ e. omega arith) c.sign.ensures

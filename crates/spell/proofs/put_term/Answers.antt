@@ -1,72 +1,48 @@
 -- `put_term` meets its contract: the names are stored one behind the other, from the lowest variable on. Assumes nothing.
 use native.Mathlib.Omega.{arith}
-use borrow.Author.Rules.{rules}
-use mathlib.Core.Path.{ap}
-use Prim.Native.Nat.{ℕ, ◌+◌, ◌<◌}
-use lib.Count.{trailing_le}
-use lib.ListN.{length}
+use mathlib.Core.Path.{ap, ◌∙◌}
+use Prim.Native.Nat.{ℕ}
+use mathlib.Core.List.{List, ◌++◌}
+use lib.ListN.{length, length-set}
 use Rattle.spell.specs.Spelled.{spelled}
-use Rattle.spell.proofs.Spelling.{writing_first, name_fits, writing_on, last_fits, writing_last, constant_length, constant_stored, rest_is_less}
+use Rattle.spell.proofs.Spelling.{variable_fits, name_fits, writing_on, ends_there, written_last, one_at_least, constant_length, constant_stored}
 use Rattle.spell.proofs.put_term.Goals as goal
 
 pub returns-then-term-eq0 : goal.returns-then-term-eq0
 returns-then-term-eq0 c = let a = c.args in constant_stored a.out.now a.from a.term a.behind c.if-term-eq0.true
 
-pub put_name-at-requires : goal.put_name-at-requires
-put_name-at-requires c =
-    let l = c.loop-rest in (
-      omega (arith, trailing_le 64 l.left),
-      name_fits _ _ _ _ l.out l.at l.left l.rest l.invariant c.loop-rest-test.true c.requires,
+pub bounds-out-from-then-term-eq0 : goal.bounds-out-from-then-term-eq0
+bounds-out-from-then-term-eq0 c =
+    let a = c.args in
+    omega (arith, c.requires, ap (λ (t : ℕ). length (spelled t a.behind)) c.if-term-eq0.true, constant_length a.behind, length-set {A = ℕ})
+
+pub put_name-end-requires : goal.put_name-end-requires
+put_name-end-requires c =
+    let l = c.loop-variable in
+    let step = c.in-Some.ensures.steps in (
+      omega (arith, variable_fits _ _ _ _ c.ranges.term.fits (l.invariant.all ∙ ap (λ (vs : List ℕ). l.yielded ++ vs) step)),
+      name_fits _ _ _ _ _ _ _ _ c.if-term-eq0.false l.invariant _ _ step c.requires l.auto.out,
     )
 
-pub put_name-requires : goal.put_name-requires
-put_name-requires c =
-    let l = c.loop-rest in (
-      omega (arith, trailing_le 64 l.left),
-      last_fits _ _ _ _ l.out l.at l.left l.rest l.invariant c.loop-rest-test.false c.requires,
-    )
+pub loop-variable-preserved : goal.loop-variable-preserved
+loop-variable-preserved c =
+    writing_on _ _ _ c.args.behind _ _ _ _ c.if-term-eq0.false c.loop-variable.invariant _ _ c.in-Some.ensures.steps _ _ c.put_name-end.ensures.0 c.put_name-end.ensures.1
 
-pub loop-rest-smaller : goal.loop-rest-smaller
-loop-rest-smaller c = let l = c.loop-rest in omega (arith, l.invariant.others, rest_is_less l.left l.invariant.some)
+pub overflow_sub-out : goal.overflow_sub-out
+overflow_sub-out c = one_at_least _ _ _ c.args.behind _ _ _ _ c.if-term-eq0.false c.loop-variable.invariant c.in-None.ensures.steps.0
+
+pub bounds-out-end : goal.bounds-out-end
+bounds-out-end c =
+    let a = c.args in
+    let l = c.loop-variable in
+    let e = ends_there _ _ _ a.behind _ _ _ _ c.if-term-eq0.false l.invariant c.in-None.ensures.steps.0 in
+    let p = one_at_least _ _ _ a.behind _ _ _ _ c.if-term-eq0.false l.invariant c.in-None.ensures.steps.0 in
+    omega (arith, e, p, c.requires, l.auto.out)
 
 pub returns : goal.returns
 returns c =
-    let l = c.loop-rest in
-    writing_last _ _ _ _ l.out l.at l.left l.rest l.invariant c.loop-rest-test.false _ c.put_name.result c.put_name.ensures.0
-    c.put_name.ensures.1
-
-pub bounds-out-from : goal.bounds-out-from
-bounds-out-from c =
-    -- the term `1` takes two bytes
-    let two : c.args.from + 1 < length c.args.out.now = let a = c.args in omega (arith, c.requires, ap (λ (t : ℕ). length (spelled t a.behind)) c.if-term-eq0.true, constant_length a.behind) in
-    let h = two in search rules
-
-pub overflow_add-out : goal.overflow_add-out
-overflow_add-out c =
-    -- the term `1` takes two bytes
-    let two : c.args.from + 1 < length c.args.out.now = let a = c.args in omega (arith, c.requires, ap (λ (t : ℕ). length (spelled t a.behind)) c.if-term-eq0.true, constant_length a.behind) in
-    let h = two in search rules
-
-pub bounds-out-from-then-term-eq0 : goal.bounds-out-from-then-term-eq0
-bounds-out-from-then-term-eq0 c =
-    -- the term `1` takes two bytes
-    let two : c.args.from + 1 < length c.args.out.now = let a = c.args in omega (arith, c.requires, ap (λ (t : ℕ). length (spelled t a.behind)) c.if-term-eq0.true, constant_length a.behind) in
-    let h = two in search rules
-
-pub overflow_add-result : goal.overflow_add-result
-overflow_add-result c =
-    -- the term `1` takes two bytes
-    let two : c.args.from + 1 < length c.args.out.now = let a = c.args in omega (arith, c.requires, ap (λ (t : ℕ). length (spelled t a.behind)) c.if-term-eq0.true, constant_length a.behind) in
-    let h = two in search rules
-
-pub loop-rest-init : goal.loop-rest-init
-loop-rest-init c = search writing_first
-
-pub overflow_cast-left : goal.overflow_cast-left
-overflow_cast-left c = omega (arith, trailing_le 64 c.loop-rest.left)
-
-pub loop-rest-preserved : goal.loop-rest-preserved
-loop-rest-preserved c = search writing_on
-
-pub overflow_cast-left-2 : goal.overflow_cast-left-2
-overflow_cast-left-2 c = omega (arith, trailing_le 64 c.loop-rest.left)
+    let l = c.loop-variable in
+    let n = c.in-None.ensures.steps.0 in (
+      ends_there _ _ _ c.args.behind _ _ _ _ c.if-term-eq0.false l.invariant n,
+      written_last _ _ _ c.args.behind _ _ _ _ c.if-term-eq0.false l.invariant n,
+    )

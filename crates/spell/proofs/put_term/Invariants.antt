@@ -2,8 +2,5 @@
 use Rattle.spell.proofs.Spelling.{Writing}
 use Rattle.spell.proofs.put_term.Given as goal
 
-abbrev pub invariant-loop-rest : goal.invariant-loop-rest
-invariant-loop-rest l = Writing l.initial.out l.from l.term l.behind l.out l.at l.left l.rest
-
-abbrev pub decreases-loop-rest : goal.decreases-loop-rest
-decreases-loop-rest l = l.left
+abbrev pub invariant-loop-variable : goal.invariant-loop-variable
+invariant-loop-variable l = Writing l.initial.out l.from l.term l.out l.end l.yielded l.variable-iterator.0

@@ -6,7 +6,6 @@ use mathlib.Core.Path.{◌≡◌, sym, ap, subst, ◌∙◌}
 use lib.Bits.{bit_and, and_self}
 use lib.ListN.{get_or}
 use Rattle.masks.proofs.Reflect.{identity, ◌∩◌, ◌⊆◌, ∴◌, ◌⇒◌}
-use Rattle.narrow.specs.Numbers.{value, numbers}
 use Rattle.taking.proofs.common.Goals as goal
 
 less : (c t u : ℕ) → bit_and c u ≡ c → bit_and (bit_and c t) u ≡ bit_and c t
@@ -19,30 +18,21 @@ first_only : (k : ℕ) → k < 1 → k ≡ 0
 first_only k h = omega arith
 
 pub loop-i-init : goal.loop-i-init
-loop-i-init c =
-    let list = numbers c.args.list.now in
-    let count = c.count-n.ensures in
-    let first = c.at-held.ensures in (
-      count,
-      omega (arith, count, c.requires),
-      λ k h. ap (λ (j : ℕ). bit_and (value c.at-held.result) (get_or list j 0)) (first_only k h)
-          ∙ ap (bit_and (value c.at-held.result)) (sym first)
-          ∙ and_self (value c.at-held.result),
-    )
+loop-i-init g c k h =
+    let list = g.T.Term.numbers c.args.list.now in
+    let held = g.T.Term.value c.at-held.result in
+    ap (λ (j : ℕ). bit_and held (get_or list j 0)) (first_only k h) ∙ ap (bit_and held) (sym c.at-held.ensures) ∙ and_self held
 
 pub loop-i-preserved : goal.loop-i-preserved
-loop-i-preserved c =
+loop-i-preserved g c =
     let here = c.loop-i in
-    let list = numbers c.args.list.now in
-    let held = value here.held in
+    let list = g.T.Term.numbers c.args.list.now in
+    let held = g.T.Term.value here.held in
     let next = get_or list here.i 0 in
-    let both : bit_and held next ≡ value c.and-held.result = sym (c.and-held.ensures ∙ ap (bit_and held) c.at.ensures) in (
-      here.invariant.0,
-      omega arith,
-      subst (λ (h : ℕ). (k : ℕ) → k < here.i + 1 → bit_and h (get_or list k 0) ≡ h) both
-          (below_more (λ (k : ℕ). bit_and (bit_and held next) (get_or list k 0) ≡ bit_and held next) here.i
-          (λ k h. less held next (get_or list k 0) (here.invariant.2 k h)) (new held next)),
-    )
+    let both : bit_and held next ≡ g.T.Term.value c.and-held.result = sym (c.and-held.ensures ∙ ap (bit_and held) c.at.ensures) in
+    subst (λ (h : ℕ). (k : ℕ) → k < here.i + 1 → bit_and h (get_or list k 0) ≡ h) both
+    (below_more (λ (k : ℕ). bit_and (bit_and held next) (get_or list k 0) ≡ bit_and held next) here.i
+    (λ k h. less held next (get_or list k 0) (here.invariant k h)) (new held next))
 
 pub returns : goal.returns
-returns c k h = c.loop-i.invariant.2 k (omega (arith, c.loop-i.invariant.0))
+returns g c k h = c.loop-i.invariant k (omega arith)

@@ -1,49 +1,70 @@
 -- `taking::write_parts`: between two parts it stands as Splitting says; each turn is a round (Round), and the variables left fall. Assumes nothing.
 use native.Mathlib.Omega.{arith}
-use borrow.Author.Tests.{eqb-true, eqb-false}
-use Prim.Native.Nat.{ℕ, ◌≤◌, ◌<◌, ◌^◌}
-use mathlib.Core.Path.{◌≡◌, refl, sym, ap, subst, ◌∙◌}
-use mathlib.Core.List.{List}
+use borrow.Author.Tests.{eqb-true}
+use borrow.Author.Rules.{rules}
+use Prim.Native.Nat.{ℕ, ◌<◌, ◌^◌}
+use mathlib.Core.Path.{refl, sym, ap, subst, ◌∙◌}
 use lib.Bits.{bit_or, or_lt}
 use lib.Count.{ones-le}
-use lib.ListN.{length, take, drop}
+use lib.ListN.{length}
 use Rattle.polys.specs.Poly.{vars}
 use Rattle.terms.proofs.Vars.{front_below}
-use Rattle.narrow.specs.Numbers.{value, numbers, room, lines}
-use Rattle.narrow.proofs.Laws.{room_fits, room_mono, numbers_fit, numbers_same_length}
-use Rattle.narrow.proofs.Places.{front_at, rest_at, rest_at_written}
-use Rattle.taking.specs.Steps.{TakenNext}
+use Rattle.grow.proofs.Rooms.{front_lent, front_there}
+use Rattle.term.proofs.Places.{rest_at, rest_at_written}
 use Rattle.taking.proofs.Splitting.{splitting_start, long_as_before}
-use Rattle.taking.proofs.Round.{ready, length_fits, terms_fit, part_fits, round, falls, all_written}
+use Rattle.taking.proofs.Round.{some_left, ready, length_fits, terms_fit, part_fits, round, falls, all_written}
 use Rattle.taking.proofs.write_parts.Goals as goal
 
 pub loop-left-init : goal.loop-left-init
-loop-left-init c =
+loop-left-init g c =
+    let v = g.T.Term.value in
+    let lines = g.T.Term.LINES in
     let a = c.args in
     let words = a.work.now in
-    let all = c.variables-all.ensures ∙ ap vars (front_at a.t c.words-end.result words c.words-end.ensures) in
-    let fits = numbers_fit words (λ i. (c.slice_known-3-1.given i).fits) in
-    let all_fits : value c.variables-all.result < 2 ^ lines = subst (λ (m : ℕ). m < 2 ^ lines) (sym all) (front_below lines a.t (numbers words) fits) in (
-      splitting_start _ _ (numbers words) a.t lines (value a.held) (value c.variables-all.result) c.requires.0 c.requires.1 (omega (arith, c.requires.2)) c.requires.3 all
-          c.requires.4 (ones-le lines (bit_or (value a.held) (value c.variables-all.result)) (or_lt lines (value a.held) (value c.variables-all.result) c.requires.5 all_fits)),
+    let numbers = g.T.Term.numbers words in
+    let all = c.variables-all.ensures ∙ ap vars (front_lent g.T.Term.laws a.t c.words-end.result words c.words-end.ensures) in
+    let fits = g.T.Term.laws.numbers_fit words (λ i. (c.slice_known-3-1.given i).fits) in
+    let all_fits = subst (λ (m : ℕ). m < 2 ^ lines) (sym all) (front_below lines a.t numbers fits) in (
+      splitting_start _ _ numbers a.t lines (v a.held) (v c.variables-all.result) c.requires.0 c.requires.1 (omega (arith, c.requires.2)) c.requires.3 all
+          c.requires.4 (ones-le lines (bit_or (v a.held) (v c.variables-all.result)) (or_lt lines (v a.held) (v c.variables-all.result) c.requires.5 all_fits)),
       refl,
       refl,
     )
 
-pub words-from-requires : goal.words-from-requires
-words-from-requires c =
-    -- variables are left where a turn begins
-    let more : let here = c.loop-left in bit_or (value here.left) (value here.all) ≡ 0 → ⊥ = λ e. eqb-false _ 0 (sym c.empty.ensures ∙ c.loop-left-test.true) (c.or.ensures ∙ e) in
-    let terms = c.loop-left.part_terms in
+pub loop-left-preserved : goal.loop-left-preserved
+loop-left-preserved g c =
+    let more = some_left c.empty.result _ _ c.empty.ensures c.loop-left-test.true c.or.ensures in
     let fit = terms_fit _ _ _ _ _ _ _ _ _ _ _ _ _ c.loop-left.invariant.0 more c.requires.6 c.requires.7 in
-    omega (arith, room_mono c.loop-left.at (length (numbers terms)) (omega (arith, fit)), room_fits terms)
+    let laws = g.T.Term.laws in
+    let part = c.take_next-next in
+    let here = c.loop-left in
+    let terms = here.part_terms in (
+      round _ _ _ _ _ _ _ _ _ _ _ _ _ here.invariant.0 more c.requires.6 c.requires.7 _ _ _ (rest_at laws here.at c.words-from.result terms c.words-from.ensures)
+          _ _ _ part.ensures (laws.numbers_same_length part.new.work here.work part.auto.work) _ _ c.off-left.ensures c.off-all.ensures _
+          (rest_at_written laws here.at c.words-from.result terms part.new.room (omega (arith, fit)) c.words-from.ensures),
+      part.auto.work ∙ here.invariant.1,
+      long_as_before c.words-from.result terms part.new.room (front_there g.T.Term.laws c.loop-left.at c.words-from.result c.loop-left.part_terms (omega (arith, fit)) c.words-from.ensures) part.auto.room
+          ∙ here.invariant.2,
+    )
+
+pub loop-left-smaller : goal.loop-left-smaller
+loop-left-smaller g c =
+    let more = some_left c.empty.result _ _ c.empty.ensures c.loop-left-test.true c.or.ensures in
+    let part = c.take_next-next in
+    let here = c.loop-left in
+    falls _ _ _ _ _ _ _ _ _ _ _ _ _ here.invariant.0 more c.requires.6 c.requires.7 _ _ _
+    (rest_at g.T.Term.laws here.at c.words-from.result here.part_terms c.words-from.ensures) _ _ _ part.ensures
+    (g.T.Term.laws.numbers_same_length part.new.work here.work part.auto.work) _ _ c.off-left.ensures c.off-all.ensures
+
+pub returns : goal.returns
+returns g c =
+    all_written _ _ _ _ _ _ _ _ _ _ _ _ _ c.loop-left.invariant.0 (sym c.or.ensures ∙ eqb-true _ 0 (sym c.empty.ensures ∙ c.loop-left-test.false))
 
 pub take_next-next-requires : goal.take_next-next-requires
-take_next-next-requires c =
-    -- variables are left where a turn begins
-    let more : let here = c.loop-left in bit_or (value here.left) (value here.all) ≡ 0 → ⊥ = λ e. eqb-false _ 0 (sym c.empty.ensures ∙ c.loop-left-test.true) (c.or.ensures ∙ e) in
+take_next-next-requires g c =
+    let more = some_left c.empty.result _ _ c.empty.ensures c.loop-left-test.true c.or.ensures in
     let inv = c.loop-left.invariant.0 in
-    let lent = rest_at c.loop-left.at c.words-from.result c.loop-left.part_terms c.words-from.ensures in (
+    let lent = rest_at g.T.Term.laws c.loop-left.at c.words-from.result c.loop-left.part_terms c.words-from.ensures in (
       ready _ _ _ _ _ _ _ _ _ _ _ _ _ inv more c.requires.6 c.requires.7,
       inv.free,
       more,
@@ -51,76 +72,13 @@ take_next-next-requires c =
     )
 
 pub bounds-part_lengths-k : goal.bounds-part_lengths-k
-bounds-part_lengths-k c =
-    -- variables are left where a turn begins
-    let more : let here = c.loop-left in bit_or (value here.left) (value here.all) ≡ 0 → ⊥ = λ e. eqb-false _ 0 (sym c.empty.ensures ∙ c.loop-left-test.true) (c.or.ensures ∙ e) in
+bounds-part_lengths-k g c =
+    let more = some_left c.empty.result _ _ c.empty.ensures c.loop-left-test.true c.or.ensures in
     length_fits _ _ _ _ _ _ _ _ _ _ _ _ _ c.loop-left.invariant.0 more c.requires.6 c.requires.7
 
-pub overflow_add-at : goal.overflow_add-at
-overflow_add-at c =
-    -- variables are left where a turn begins
-    let more : let here = c.loop-left in bit_or (value here.left) (value here.all) ≡ 0 → ⊥ = λ e. eqb-false _ 0 (sym c.empty.ensures ∙ c.loop-left-test.true) (c.or.ensures ∙ e) in
-    -- what the call of a turn left, by the terms behind those written
-    let took : let part = c.take_next-next in TakenNext (value c.loop-left.left) (take c.loop-left.n (numbers c.loop-left.work)) (drop c.loop-left.at (numbers c.loop-left.part_terms)) (numbers part.new.room) (numbers part.new.work) c.loop-left.n (value c.loop-left.all) (value part.result.y) part.result.part part.result.rest = let part = c.take_next-next in subst (λ (lent : List ℕ). TakenNext (value c.loop-left.left) (take c.loop-left.n (numbers c.loop-left.work)) lent (numbers part.new.room) (numbers part.new.work) c.loop-left.n (value c.loop-left.all) (value part.result.y) part.result.part part.result.rest) (rest_at c.loop-left.at c.words-from.result c.loop-left.part_terms c.words-from.ensures) part.ensures in
-    let terms = c.loop-left.part_terms in
+pub offset_bounds-part_terms-from : goal.offset_bounds-part_terms-from
+offset_bounds-part_terms-from g c =
+    let more = some_left c.empty.result _ _ c.empty.ensures c.loop-left-test.true c.or.ensures in
     let fit = terms_fit _ _ _ _ _ _ _ _ _ _ _ _ _ c.loop-left.invariant.0 more c.requires.6 c.requires.7 in
-    omega (arith, fit, took.part_fits, room_fits terms)
-
-pub loop-left-smaller : goal.loop-left-smaller
-loop-left-smaller c =
-    -- variables are left where a turn begins
-    let more : let here = c.loop-left in bit_or (value here.left) (value here.all) ≡ 0 → ⊥ = λ e. eqb-false _ 0 (sym c.empty.ensures ∙ c.loop-left-test.true) (c.or.ensures ∙ e) in
-    -- what the call of a turn left, by the terms behind those written
-    let took : let part = c.take_next-next in TakenNext (value c.loop-left.left) (take c.loop-left.n (numbers c.loop-left.work)) (drop c.loop-left.at (numbers c.loop-left.part_terms)) (numbers part.new.room) (numbers part.new.work) c.loop-left.n (value c.loop-left.all) (value part.result.y) part.result.part part.result.rest = let part = c.take_next-next in subst (λ (lent : List ℕ). TakenNext (value c.loop-left.left) (take c.loop-left.n (numbers c.loop-left.work)) lent (numbers part.new.room) (numbers part.new.work) c.loop-left.n (value c.loop-left.all) (value part.result.y) part.result.part part.result.rest) (rest_at c.loop-left.at c.words-from.result c.loop-left.part_terms c.words-from.ensures) part.ensures in
-    falls _ _ _ _ _ _ _ _ _ _ _ _ _ c.loop-left.invariant.0 more c.requires.6 c.requires.7 _ _ _ _ _ took
-    (numbers_same_length c.take_next-next.new.work c.loop-left.work c.take_next-next.auto.work) _ _ c.off-left.ensures c.off-all.ensures
-
-pub loop-left-preserved : goal.loop-left-preserved
-loop-left-preserved c =
-    -- variables are left where a turn begins
-    let more : let here = c.loop-left in bit_or (value here.left) (value here.all) ≡ 0 → ⊥ = λ e. eqb-false _ 0 (sym c.empty.ensures ∙ c.loop-left-test.true) (c.or.ensures ∙ e) in
-    -- the words before the room that is lent are there
-    let lent_there : c.words-from.result ≤ length c.loop-left.part_terms = let terms = c.loop-left.part_terms in let fit = terms_fit _ _ _ _ _ _ _ _ _ _ _ _ _ c.loop-left.invariant.0 more c.requires.6 c.requires.7 in omega (arith, c.words-from.ensures, room_mono c.loop-left.at (length (numbers terms)) (omega (arith, fit)), room_fits terms) in
-    -- what the call of a turn left, by the terms behind those written
-    let took : let part = c.take_next-next in TakenNext (value c.loop-left.left) (take c.loop-left.n (numbers c.loop-left.work)) (drop c.loop-left.at (numbers c.loop-left.part_terms)) (numbers part.new.room) (numbers part.new.work) c.loop-left.n (value c.loop-left.all) (value part.result.y) part.result.part part.result.rest = let part = c.take_next-next in subst (λ (lent : List ℕ). TakenNext (value c.loop-left.left) (take c.loop-left.n (numbers c.loop-left.work)) lent (numbers part.new.room) (numbers part.new.work) c.loop-left.n (value c.loop-left.all) (value part.result.y) part.result.part part.result.rest) (rest_at c.loop-left.at c.words-from.result c.loop-left.part_terms c.words-from.ensures) part.ensures in
-    let part = c.take_next-next in
-    let terms = c.loop-left.part_terms in
-    let fit = terms_fit _ _ _ _ _ _ _ _ _ _ _ _ _ c.loop-left.invariant.0 more c.requires.6 c.requires.7 in (
-      round _ _ _ _ _ _ _ _ _ _ _ _ _ c.loop-left.invariant.0 more c.requires.6 c.requires.7 _ _ _ _ _ took
-          (numbers_same_length part.new.work c.loop-left.work part.auto.work) _ _ c.off-left.ensures c.off-all.ensures _
-          (rest_at_written c.loop-left.at c.words-from.result terms part.new.room (omega (arith, fit)) c.words-from.ensures),
-      part.auto.work ∙ c.loop-left.invariant.1,
-      long_as_before c.words-from.result terms part.new.room lent_there part.auto.room ∙ c.loop-left.invariant.2,
-    )
-
-pub returns : goal.returns
-returns c =
-    all_written _ _ _ _ _ _ _ _ _ _ _ _ _ c.loop-left.invariant.0 (sym c.or.ensures ∙ eqb-true _ 0 (sym c.empty.ensures ∙ c.loop-left-test.false))
-
-pub words-end-requires : goal.words-end-requires
-words-end-requires c =
-    -- the words of the list are there
-    let list_there : room c.args.t ≤ length c.args.work.now = let work = c.args.work.now in omega (arith, room_mono c.args.t (length (numbers work)) (omega (arith, c.requires.3)), room_fits work) in
-    omega (arith, list_there)
-
-pub slice_bounds-variables-end : goal.slice_bounds-variables-end
-slice_bounds-variables-end c =
-    -- the words of the list are there
-    let list_there : room c.args.t ≤ length c.args.work.now = let work = c.args.work.now in omega (arith, room_mono c.args.t (length (numbers work)) (omega (arith, c.requires.3)), room_fits work) in
-    omega (arith, c.words-end.ensures, list_there)
-
-pub slice_bounds-take_next-count : goal.slice_bounds-take_next-count
-slice_bounds-take_next-count c =
-    -- variables are left where a turn begins
-    let more : let here = c.loop-left in bit_or (value here.left) (value here.all) ≡ 0 → ⊥ = λ e. eqb-false _ 0 (sym c.empty.ensures ∙ c.loop-left-test.true) (c.or.ensures ∙ e) in
-    -- the words before the room that is lent are there
-    let lent_there : c.words-from.result ≤ length c.loop-left.part_terms = let terms = c.loop-left.part_terms in let fit = terms_fit _ _ _ _ _ _ _ _ _ _ _ _ _ c.loop-left.invariant.0 more c.requires.6 c.requires.7 in omega (arith, c.words-from.ensures, room_mono c.loop-left.at (length (numbers terms)) (omega (arith, fit)), room_fits terms) in
-    lent_there
-
-pub slice_bounds-take_next-start : goal.slice_bounds-take_next-start
-slice_bounds-take_next-start c =
-    -- variables are left where a turn begins
-    let more : let here = c.loop-left in bit_or (value here.left) (value here.all) ≡ 0 → ⊥ = λ e. eqb-false _ 0 (sym c.empty.ensures ∙ c.loop-left-test.true) (c.or.ensures ∙ e) in
-    -- the words before the room that is lent are there
-    let lent_there : c.words-from.result ≤ length c.loop-left.part_terms = let terms = c.loop-left.part_terms in let fit = terms_fit _ _ _ _ _ _ _ _ _ _ _ _ _ c.loop-left.invariant.0 more c.requires.6 c.requires.7 in omega (arith, c.words-from.ensures, room_mono c.loop-left.at (length (numbers terms)) (omega (arith, fit)), room_fits terms) in
-    lent_there
+    let lent_there = front_there g.T.Term.laws c.loop-left.at c.words-from.result c.loop-left.part_terms (omega (arith, fit)) c.words-from.ensures in
+    search (rules, lent_there)

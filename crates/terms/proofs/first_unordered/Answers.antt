@@ -5,15 +5,14 @@ use Prim.Native.Nat.{ℕ, ◌≤◌, ◌<◌}
 use mathlib.Core.Path.{sym, subst, ◌∙◌}
 use Rattle.terms.proofs.Order.{unordered_of_none, unordered_from_first, rising_goes_on, rising_at_end, rising_stops}
 use lib.ListN.{get_or}
-use Rattle.narrow.specs.Numbers.{value, numbers}
 use Rattle.terms.proofs.first_unordered.Goals as goal
 
 pub returns-then-n-eq0 : goal.returns-then-n-eq0
-returns-then-n-eq0 c = sym (unordered_of_none (numbers c.args.terms.now) (sym c.count-n.ensures ∙ c.if-n-eq0.true))
+returns-then-n-eq0 g c = sym (unordered_of_none (g.T.Term.numbers c.args.terms.now) (sym c.count-n.ensures ∙ c.if-n-eq0.true))
 
 pub loop-i-init : goal.loop-i-init
-loop-i-init c =
-    let terms = numbers c.args.terms.now in
+loop-i-init g c =
+    let terms = g.T.Term.numbers c.args.terms.now in
     let count = c.count-n.ensures in (
       count,
       omega arith,
@@ -22,9 +21,9 @@ loop-i-init c =
     )
 
 pub loop-i-preserved : goal.loop-i-preserved
-loop-i-preserved c =
-    let last = value c.loop-i.last in
-    let terms = numbers c.args.terms.now in
+loop-i-preserved g c =
+    let last = g.T.Term.value c.loop-i.last in
+    let terms = g.T.Term.numbers c.args.terms.now in
     let at = c.at-next.ensures in
     let above : last < get_or terms c.loop-i.i 0 =
     subst (λ (t : ℕ). last < t) at (ltb-true last _ (sym c.less.ensures ∙ c.if-not-less.false)) in
@@ -32,15 +31,15 @@ loop-i-preserved c =
     (c.loop-i.invariant.0, omega arith, omega arith, rw at (omega (arith, c.loop-i.invariant.3, on)))
 
 pub returns-then-n-i : goal.returns-then-n-i
-returns-then-n-i c =
+returns-then-n-i g c =
     let here = c.loop-i in
-    let terms = numbers c.args.terms.now in
-    omega (arith, here.invariant.3, rising_at_end (value here.last) terms here.i (omega arith))
+    let terms = g.T.Term.numbers c.args.terms.now in
+    omega (arith, here.invariant.3, rising_at_end (g.T.Term.value here.last) terms here.i (omega arith))
 
 pub returns-then-not-less : goal.returns-then-not-less
-returns-then-not-less c =
-    let last = value c.loop-i.last in
-    let terms = numbers c.args.terms.now in
+returns-then-not-less g c =
+    let last = g.T.Term.value c.loop-i.last in
+    let terms = g.T.Term.numbers c.args.terms.now in
     let low : get_or terms c.loop-i.i 0 ≤ last =
     subst (λ (t : ℕ). t ≤ last) c.at-next.ensures
     (ltb-false last _ (sym c.less.ensures ∙ c.if-not-less.true)) in

@@ -3,11 +3,10 @@ use Prim.Native.Nat.{◌≤◌, ◌-◌, ◌+◌}
 use mathlib.Core.Path.{◌≡◌}
 use lib.ListN.{length, drop}
 use Rattle.terms.specs.Order.{rising, unordered}
-use Rattle.narrow.specs.Numbers.{value, numbers}
 use Rattle.terms.proofs.first_unordered.Given as goal
 
 abbrev pub invariant-loop-i : goal.invariant-loop-i
-invariant-loop-i l = (l.n ≡ length (numbers l.terms)) × (1 ≤ l.i) × (l.i ≤ l.n) × (l.i + rising (value l.last) (drop l.i (numbers l.terms)) ≡ unordered (numbers l.terms))
+invariant-loop-i g l = (l.n ≡ length (g.T.Term.numbers l.terms)) × (1 ≤ l.i) × (l.i ≤ l.n) × (l.i + rising (g.T.Term.value l.last) (drop l.i (g.T.Term.numbers l.terms)) ≡ unordered (g.T.Term.numbers l.terms))
 
 abbrev pub decreases-loop-i : goal.decreases-loop-i
-decreases-loop-i l = l.n - l.i
+decreases-loop-i g l = l.n - l.i

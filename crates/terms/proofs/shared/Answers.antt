@@ -4,4 +4,4 @@ use lib.Bits.{bit_and}
 use Rattle.terms.proofs.shared.Goals as goal
 
 pub returns : goal.returns
-returns c = c.and.ensures ∙ ap₂ bit_and c.of-first.ensures.1 c.of-second.ensures.1
+returns g c = c.and.ensures ∙ ap₂ bit_and c.variables-first.ensures c.variables.ensures

@@ -2,8 +2,5 @@
 use Rattle.text.proofs.Writing.{Sized}
 use Rattle.text.proofs.text_size.Given as goal
 
-abbrev pub invariant-loop-i : goal.invariant-loop-i
-invariant-loop-i l = Sized l.terms l.size l.i
-
-abbrev pub decreases-loop-i : goal.decreases-loop-i
-decreases-loop-i l = l.i
+abbrev pub invariant-loop-term : goal.invariant-loop-term
+invariant-loop-term l = Sized l.terms l.size l.term-index

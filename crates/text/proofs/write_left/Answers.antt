@@ -6,8 +6,8 @@ use Rattle.text.proofs.write_left.Goals as goal
 pub returns : goal.returns
 returns c =
     let it = c.keep_left-left in
-    written_out (take c.args.count c.args.words.now) it.new.words c.args.out.now c.copy.new.room it.result it.ensures.0
-    it.ensures.1 c.if-out-left.false c.copy.ensures
+    written_out (take c.args.count c.args.words.now) it.new.words c.args.out.now c.copy_from_slice.new.self it.result it.ensures.0
+    it.ensures.1 c.if-out-left.false c.copy_from_slice.ensures.after
 
 pub returns-then-out-left : goal.returns-then-out-left
 returns-then-out-left c = search no_room

@@ -3,15 +3,14 @@
 use Prim.Native.Nat.{◌+◌, ◌-◌, ◌≤◌}
 use lib.ListN.{length}
 use mathlib.Core.Path.{◌≡◌}
-use Rattle.narrow.specs.Numbers.{numbers}
 use Rattle.unions.proofs.Writing.{SoFar}
 use Rattle.unions.proofs.+by_runs.Given as goal
 
 abbrev pub decreases-by_runs : goal.decreases-by_runs
-decreases-by_runs l = length (numbers l.a.now) + length (numbers l.b.now)
+decreases-by_runs g l = length (g.T.Term.numbers l.a.now) + length (g.T.Term.numbers l.b.now)
 
 abbrev pub invariant-loop-at : goal.invariant-loop-at
-invariant-loop-at l = (l.at ≤ l.m) × (length l.out ≡ length l.initial.out) × SoFar (numbers l.a) (numbers l.b) l.n (numbers l.out) l.at
+invariant-loop-at g l = (l.at ≤ l.m) × (length l.out ≡ length l.initial.out) × SoFar (g.T.Term.numbers l.a) (g.T.Term.numbers l.b) l.n (g.T.Term.numbers l.out) l.at
 
 abbrev pub decreases-loop-at : goal.decreases-loop-at
-decreases-loop-at l = l.m - l.at
+decreases-loop-at g l = l.m - l.at

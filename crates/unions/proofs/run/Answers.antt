@@ -3,13 +3,13 @@ use Rattle.unions.proofs.Counting.{first_near, all_near, next_far, next_near}
 use Rattle.unions.proofs.run.Goals as goal
 
 pub loop-i-init : goal.loop-i-init
-loop-i-init c = search first_near
+loop-i-init g c = search first_near
 
 pub returns-then-less : goal.returns-then-less
-returns-then-less c = search next_far
+returns-then-less g c = search next_far
 
 pub loop-i-preserved : goal.loop-i-preserved
-loop-i-preserved c = search next_near
+loop-i-preserved g c = search next_near
 
 pub returns : goal.returns
-returns c = search all_near
+returns g c = search all_near

@@ -1,11 +1,6 @@
 -- `run` counts the first terms that differ little from the first. Each answer is a law of Counting. Assumes nothing.
-use Prim.Native.Nat.{◌-◌}
-use Rattle.narrow.specs.Numbers.{value, numbers}
 use Rattle.unions.proofs.Counting.{Near}
 use Rattle.unions.proofs.run.Given as goal
 
 abbrev pub invariant-loop-i : goal.invariant-loop-i
-invariant-loop-i l = Near (numbers l.a) (value l.d) l.i
-
-abbrev pub decreases-loop-i : goal.decreases-loop-i
-decreases-loop-i l = l.n - l.i
+invariant-loop-i g l = Near (g.T.Term.numbers l.a) (g.T.Term.value l.d) l.i

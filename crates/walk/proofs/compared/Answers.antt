@@ -2,17 +2,14 @@
 use mathlib.Core.Path.{ap}
 use native.Mathlib.Omega.{arith}
 use Rattle.walk.specs.Told.{way}
-use Rattle.walk.proofs.Telling.{tells_same, tells_more, tells_missing, tells_extra}
+use Rattle.walk.proofs.Telling.{tells_same, tells_more, tells_difference}
 use Rattle.walk.proofs.compared.Goals as goal
 
-pub returns-then-at-count : goal.returns-then-at-count
-returns-then-at-count c = tells_more c.requires c.whole-went.ensures c.count.ensures (ap way c.in-On.is) (omega arith) c.at.ensures
+pub returns-in-Ok : goal.returns-in-Ok
+returns-in-Ok g c = tells_more c.requires c.whole.ensures c.count.ensures (ap (way g.T.Term.value) c.in-Ok.is) (omega arith) c.at.ensures
 
-pub returns-else-at-count : goal.returns-else-at-count
-returns-else-at-count c = tells_same c.requires c.whole-went.ensures c.count.ensures (ap way c.in-On.is) (omega arith)
+pub returns-in-Ok-2 : goal.returns-in-Ok-2
+returns-in-Ok-2 g c = tells_same c.requires c.whole.ensures c.count.ensures (ap (way g.T.Term.value) c.in-Ok.is) (omega arith)
 
-pub returns-in-Lacks : goal.returns-in-Lacks
-returns-in-Lacks c = tells_missing c.requires c.whole-went.ensures (ap way c.in-Lacks.is)
-
-pub returns-in-Adds : goal.returns-in-Adds
-returns-in-Adds c = tells_extra c.requires c.whole-went.ensures (ap way c.in-Adds.is)
+pub returns-in-Err : goal.returns-in-Err
+returns-in-Err g c = tells_difference c.requires c.whole.ensures g.T.Term.value c.in-Err.difference (ap (way g.T.Term.value) c.in-Err.is)

@@ -1,6 +1,0 @@
--- `apfelruder_write` hands on the numbers of the call of the library. Assumes nothing.
-use Rattle.answer.proofs.Checking.{numbers_handed_on}
-use Rattle.apfelruder.proofs.apfelruder_write.Goals as goal
-
-pub returns : goal.returns
-returns c = search numbers_handed_on

@@ -1,9 +1,0 @@
--- `part_with` is safe and ends: places stay within the lent lists. Assumes nothing.
-use Rattle.std.proofs.Common.{◌≤◌, ◌-◌, length}
-use Rattle.papers_check.proofs.part_with.Given as goal
-
-abbrev pub invariant-loop-i : goal.invariant-loop-i
-invariant-loop-i l = l.at ≤ length l.part_terms
-
-abbrev pub decreases-loop-i : goal.decreases-loop-i
-decreases-loop-i l = l.count - l.i

@@ -1,6 +1,0 @@
--- `show::print_list` stays inside its slice and ends. Assumes nothing.
-use Rattle.std.proofs.Common.{length, ◌-◌}
-use Rattle.show.proofs.print_list.Given as goal
-
-abbrev pub decreases-loop-i : goal.decreases-loop-i
-decreases-loop-i l = length l.words - l.i

@@ -1,8 +1,0 @@
--- Made from crates/terms/proofs/shared/Answers.antt by scripts/second-size, and not to be edited.
--- `terms2::shared` joins the variables of the two records. Assumes nothing.
-use mathlib.Core.Path.{◌∙◌, ap₂}
-use lib.Bits.{bit_and}
-use Rattle.terms2.proofs.shared.Goals as goal
-
-pub returns : goal.returns
-returns c = c.and.ensures ∙ ap₂ bit_and c.of-first.ensures.1 c.of-second.ensures.1
