@@ -2,6 +2,22 @@
 // reckoned by hand. The smaller size is tried by the programs.
 #![tactic(auto)]
 
+ghost use Rattle.std.specs.Prelude.{◌≡◌, length};
+
+use answer::Outcome;
+use parts::Outputs;
+use wide::Wide;
+
+// A caller that goes on with the buffers that it lent to split: they are as long as they were, refused or not. The terms in them do not tell
+// this of an odd last word, which is no term.
+pub fn split_and_go_on(list: &[u64], outputs: &mut Outputs<'_>) -> Outcome
+    ensures terms { length outputs.new.terms.now ≡ length outputs.old.terms.now }
+    ensures lengths { length outputs.new.lengths.now ≡ length outputs.old.lengths.now }
+    ensures work { length outputs.new.work.now ≡ length outputs.old.work.now }
+{
+    parts::split::<Wide>(list, outputs)
+}
+
 #[cfg(test)]
 mod tests {
     use answer::Answer;
