@@ -4,15 +4,17 @@
 use super::calls;
 use arrayvec::ArrayVec;
 
+// The words of a line. They are lent to its reading, and cleared for the next: new ones are 32 KB of zeros.
+type Words = ArrayVec<u64, 4100>;
+
 // How far the lists of a line are read: a number, if one has begun, the start of the run that it ends, if there is one, and the run's
-// step; the words, and where the last four lists end among them, a number outside of a list being one too.
-#[derive(Drop)]
-struct Reading {
-    number: Option<u64>,
-    run: Option<u64>,
-    step: u64,
-    words: ArrayVec<u64, 4100>,
-    ends: [usize; 4],
+// step; and where the last four lists end among the words, a number outside of a list being one too.
+#[derive(Clone, Copy)]
+pub struct Reading {
+    pub number: Option<u64>,
+    pub run: Option<u64>,
+    pub step: u64,
+    pub ends: [usize; 4],
 }
 
 impl Reading {
@@ -21,41 +23,40 @@ impl Reading {
             number: None,
             run: None,
             step: 1,
-            words: ArrayVec::new(),
             ends: [0; 4],
         }
     }
 
     // Puts `from` and as many more words as there are numbers from there to `to`, each a step above the one before it, while there is room.
-    fn put(&mut self, from: u64, to: u64) {
+    fn put(self, from: u64, to: u64, words: &mut Words) {
         for k in 0..=to.wrapping_sub(from) {
             let word = from.wrapping_add(self.step.wrapping_mul(k));
-            if self.words.try_push(word).is_err() {
+            if words.try_push(word).is_err() {
                 return;
             }
         }
     }
 
     // A number ends with the character c: it is where a run begins, the step of one, or a word or the last of a run.
-    fn number_ends(&mut self, number: u64, c: u8) {
+    fn number_ends(&mut self, number: u64, c: u8, words: &mut Words) {
         match c {
             b'.' => self.run = self.run.or(Some(number)),
             b'j' => self.step = number,
             _ => {
                 let from = self.run.take().unwrap_or(number);
-                self.put(from, number);
+                self.put(from, number, words);
                 self.step = 1;
             }
         }
     }
 
-    fn list_ends(&mut self) {
+    fn list_ends(&mut self, words: &Words) {
         let [_, a, b, c] = self.ends;
-        self.ends = [a, b, c, self.words.len()];
+        self.ends = [a, b, c, words.len()];
     }
 
     // One character more.
-    fn read(&mut self, c: u8) {
+    fn read(&mut self, c: u8, words: &mut Words) {
         if c.is_ascii_digit() {
             let ten_times = self.number.unwrap_or(0).wrapping_mul(10);
             self.number = Some(ten_times.wrapping_add(u64::from(c & 15)));
@@ -63,10 +64,10 @@ impl Reading {
         }
         let number = self.number.take();
         if let Some(number) = number {
-            self.number_ends(number, c);
+            self.number_ends(number, c, words);
         }
         if c == b'}' || number.is_some() && (c == b' ' || c == b'\n') {
-            self.list_ends();
+            self.list_ends(words);
         }
     }
 }
@@ -83,20 +84,22 @@ fn name_and_lists(line: &[u8]) -> (&[u8], &[u8]) {
 }
 
 // Runs the call of a line.
-fn run(line: &[u8]) {
+fn run(line: &[u8], words: &mut Words) {
     let (name, lists) = name_and_lists(line);
     let mut reading = Reading::new();
+    words.clear();
     for c in lists {
-        reading.read(*c);
+        reading.read(*c, words);
     }
-    calls::run(name, &reading.words, reading.ends);
+    calls::run(name, words, reading.ends);
 }
 
 // Runs all cases of the text. What stands behind the last line feed is none.
 pub fn run_each(text: &[u8]) {
+    let mut words = Words::new();
     for line in text.split_inclusive(|c| *c == b'\n') {
         if line.ends_with(b"\n") {
-            run(line);
+            run(line, &mut words);
         }
     }
 }

@@ -15,10 +15,10 @@ use terms::TermList;
 
 // What was counted: pairs asked about, those in one part, those where the two ways differ.
 #[derive(Clone, Copy, Default)]
-struct Tally {
-    pairs: u64,
-    one: u64,
-    differ: u64,
+pub struct Tally {
+    pub pairs: u64,
+    pub one: u64,
+    pub differ: u64,
 }
 
 impl Tally {
@@ -60,10 +60,9 @@ impl Parts<'_> {
         None
     }
 
-    // One more pair, of which split says whether it lies in one part.
-    fn ask(self, x: u64, y: u64, one: bool, tally: &mut Tally) {
-        let mut room = [0; 2 * TermList::MAX_TERMS];
-        let said = papers::together(self.list, x, y, &mut room);
+    // One more pair, of which split says whether it lies in one part. The room for the four lists is lent, since a new one is 16 KB of zeros.
+    fn ask(self, x: u64, y: u64, one: bool, room: &mut [u64], tally: &mut Tally) {
+        let said = papers::together(self.list, x, y, room);
         let differ = said != Ok(u64::from(one));
         if differ {
             let Answer { code, count, .. } = Answer::from(said);
@@ -76,21 +75,21 @@ impl Parts<'_> {
     }
 
     // Every other variable against x, whose part is a.
-    fn row(self, x: u64, a: usize, tally: &mut Tally) {
+    fn row(self, x: u64, a: usize, room: &mut [u64], tally: &mut Tally) {
         for y in 0..TermList::MAX_VARS as u64 {
             if let Some(b) = self.part_with(y)
                 && x != y
             {
-                self.ask(x, y, a == b, tally);
+                self.ask(x, y, a == b, room, tally);
             }
         }
     }
 
     // Every two different variables of the parts.
-    fn all_pairs(self, tally: &mut Tally) {
+    fn all_pairs(self, room: &mut [u64], tally: &mut Tally) {
         for x in 0..TermList::MAX_VARS as u64 {
             if let Some(a) = self.part_with(x) {
-                self.row(x, a, tally);
+                self.row(x, a, room, tally);
             }
         }
     }
@@ -101,6 +100,7 @@ fn measure(list: &[u64], tally: &mut Tally) {
     let mut terms = [0; TermList::MAX_TERMS + TermList::MAX_VARS];
     let mut lengths = [0; TermList::MAX_VARS];
     let mut work = [0; 4 * TermList::MAX_TERMS];
+    let mut room = [0; 2 * TermList::MAX_TERMS];
     let mut outputs = Outputs {
         terms: &mut terms,
         lengths: &mut lengths,
@@ -115,7 +115,7 @@ fn measure(list: &[u64], tally: &mut Tally) {
             terms,
             lengths,
         };
-        parts.all_pairs(tally);
+        parts.all_pairs(&mut room, tally);
     }
 }
 

@@ -5,13 +5,13 @@ use show::{Buffer, Numbers, Out, starts_with};
 use std::fmt::Write;
 
 // Reads the text that a line means, with as many words lent as the digit says.
-pub fn read(line: &[u8], digit: u8) {
-    let text = made::text(line);
+pub fn read(line: &[u8], digit: u8, text: &mut made::Text) {
+    made::text(line, text);
     let mut out = [99; 10];
     let room = usize::from(digit & 15);
     if let Some(lent) = out.get_mut(..room) {
-        let said = Numbers(text::read_text(&text, lent));
-        let _ = writeln!(Out, "read {}{said} |{}", Text(&text), Buffer(lent));
+        let said = Numbers(text::read_text(text, lent));
+        let _ = writeln!(Out, "read {}{said} |{}", Text(text), Buffer(lent));
     }
 }
 

@@ -46,11 +46,10 @@ fn put(text: &mut Text, c: u8) {
     let _ = text.try_push(byte);
 }
 
-// The text that a line means from its third character on.
-pub fn text(line: &[u8]) -> Text {
-    let mut text = Text::new();
+// Makes it the text that a line means from its third character on. It is lent, since a new one is 64 KB of zeros.
+pub fn text(line: &[u8], text: &mut Text) {
+    text.clear();
     for c in line.iter().skip(2) {
-        put(&mut text, *c);
+        put(text, *c);
     }
-    text
 }

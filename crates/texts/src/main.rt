@@ -13,19 +13,20 @@ mod made;
 mod printed;
 
 // Runs the call of a line, which its first character says.
-fn run(line: &[u8]) {
+fn run(line: &[u8], text: &mut made::Text) {
     match line {
         [b'w', ..] => calls::write(line),
-        [digit @ b'0'..=b'9', ..] => calls::read(line, *digit),
+        [digit @ b'0'..=b'9', ..] => calls::read(line, *digit, text),
         _ => {}
     }
 }
 
 // Runs the calls of all lines. What stands behind the last line feed is no line.
 fn run_each(lines: &[u8]) {
+    let mut text = made::Text::new();
     for line in lines.split_inclusive(|c| *c == b'\n') {
         if let Some(line) = line.strip_suffix(b"\n") {
-            run(line);
+            run(line, &mut text);
         }
     }
 }
