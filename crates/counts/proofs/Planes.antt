@@ -49,6 +49,12 @@ unfolding count_at
 count_zeros zero v = refl
 count_zeros (suc k) v = omega (arith, digit_none v, count_zeros k v)
 
+-- four planes
+pub count_four : (a b c d : ℕ) (l : List ℕ) → l ≡ a ∷ b ∷ c ∷ d ∷ []
+    → (length l ≡ 4) × ((v : ℕ) → count_at l v ≡ digit a v + 2 * digit b v + 4 * digit c v + 8 * digit d v)
+unfolding count_at
+count_four a b c d l e = (ap length e, (λ v. omega (arith, ap (λ l. count_at l v) e)))
+
 -- equal counters stand in the same planes
 pub same_planes : (p q : List ℕ) (j v : ℕ) → length p ≡ length q → count_at p v ≡ count_at q v → bit (get_or p j 0) v ≡ bit (get_or q j 0) v
 unfolding count_at

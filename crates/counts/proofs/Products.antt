@@ -5,36 +5,27 @@ use Prim.Native.Nat.{ℕ, zero, suc, ◌+◌, ◌-◌, ◌*◌, ◌/◌, ◌^◌
 use native.Mathlib.Nat.{zero-add, pow-succ'}
 use native.Mathlib.Numerals.{add-one}
 use native.Mathlib.Omega.{arith}
-use lib.ListN.{length, get_or, drop, set, replicate, length-set}
+use lib.ListN.{length, get_or, drop, set, replicate}
 use lib.Seq.{drop-length, drop-cons, paste, paste-suc}
-use Rattle.counts.specs.Planes.{digit, count_at, Gained, halves}
+use Rattle.counts.specs.Planes.{digit, count_at, halves}
 use Rattle.counts.proofs.Digits.{digit_none, digit_first}
 use Rattle.counts.proofs.Planes.{count_set, count_from, power_next}
 
--- where low is written to the plane p, and high is to carry on
-pub plane_gained : (l after : List ℕ) (j p a b low high : ℕ) → j < length l → p ≡ get_or l j 0 → after ≡ set l j low
-    → ((v : ℕ) → digit p v + digit a v + digit b v ≡ digit low v + 2 * digit high v)
-    → Gained l (λ v. 2 ^ j * (digit a v + digit b v)) (λ v. 2 ^ (j + 1) * digit high v) after
-plane_gained l after j p a b low high within is written adds = record {
-  size = ap length written ∙ length-set l j low;
-  counts = λ v.
-      let put : count_at after v + 2 ^ j * digit p v ≡ count_at l v + 2 ^ j * digit low v = cc (count_set l j low v within) in
-      omega (arith, ap (λ n. 2 ^ j * n) (adds v), ap (λ m. m * digit high v) (power_next j));
-}
-
--- the plane q, which is plane j, and the carry c were added to plane at + j, and it all comes to the same
-pub plane_added : (sum planes after : List ℕ) (at j q c high total v : ℕ) → q ≡ get_or planes j 0 → j < length planes
-    → count_at after v + 2 ^ (at + j + 1) * digit high v ≡ count_at sum v + 2 ^ (at + j) * (digit q v + digit c v)
+-- the plane q, which is plane j, and the carry c are added to the plane p, and it all comes to the same
+pub plane_added : (sum planes after : List ℕ) (at j p q c low high total v : ℕ) → p ≡ get_or sum (at + j) 0 → q ≡ get_or planes j 0
+    → after ≡ set sum (at + j) low → at + j < length sum → j < length planes
+    → digit p v + digit q v + digit c v ≡ digit low v + 2 * digit high v
     → count_at sum v + 2 ^ (at + j) * (digit c v + count_at (drop j planes) v) ≡ total
     → count_at after v + 2 ^ (at + (j + 1)) * (digit high v + count_at (drop (j + 1) planes) v) ≡ total
-plane_added sum planes after at j q c high total v is more e so_far =
+plane_added sum planes after at j p q c low high total v is is' written within more adds so_far =
     let rest = count_at (drop (j + 1) planes) v in
+    let put : count_at after v + 2 ^ (at + j) * digit p v ≡ count_at sum v + 2 ^ (at + j) * digit low v = cc (count_set sum (at + j) low v within) in
     let from : digit q v + 2 * rest ≡ count_at (drop j planes) v = cc (count_from planes j v more) in
     let next : at + (j + 1) ≡ at + j + 1 = omega arith in
     omega (
       arith,
       ap (λ n. 2 ^ (at + j) * n) from,
-      ap (λ m. m * digit high v) (power_next (at + j)),
+      ap (λ n. 2 ^ (at + j) * n) adds,
       ap (λ m. m * (digit high v + rest)) (ap (λ k. 2 ^ k) next ∙ power_next (at + j)),
     )
 

@@ -1,5 +1,5 @@
 -- Counters of all variables at once, as bit planes: the set j of a list of planes holds the variables whose counter has bit j.
-use Rattle.std.specs.Prelude.{ℕ, ◌+◌, ◌*◌, ◌≤◌, ◌<◌, ◌^◌, zero, suc, ◌/◌, ◌≡◌, Bool, true, false, List, [], ◌∷◌, length, drop, replicate}
+use Rattle.std.specs.Prelude.{ℕ, ◌+◌, ◌*◌, ◌≤◌, ◌<◌, ◌^◌, zero, suc, ◌/◌, ◌≡◌, Bool, true, false, List, [], ◌∷◌, length, replicate}
 use Rattle.std.specs.Int.Bits.{bit_and, bit_or}
 use Rattle.masks.specs.Bit.{bit}
 use Rattle.splitting.proofs.Holding.{having}
@@ -30,15 +30,6 @@ Room planes more = (v : ℕ) → count_at planes v + more v < 2 ^ length planes
 pub record Added (planes : List ℕ) (more : ℕ → ℕ) (after : List ℕ) : Type 0 where
   pub size : length after ≡ length planes
   pub counts : (v : ℕ) → count_at after v ≡ count_at planes v + more v
-
--- the counters gained what is more, but for what is over
-pub record Gained (planes : List ℕ) (more over : ℕ → ℕ) (after : List ℕ) : Type 0 where
-  pub size : length after ≡ length planes
-  pub counts : (v : ℕ) → count_at after v + over v ≡ count_at planes v + more v
-
--- planes took in the n terms of f from i on, as far as they hold x, and n times the set c is over
-abbrev pub Taken : List ℕ → ℕ → List ℕ → ℕ → ℕ → ℕ → List ℕ → Type 0
-Taken planes x f i n c after = Gained planes (holding x (drop i f)) (λ v. n * digit c v + holding x (drop (i + n) f) v) after
 
 -- k numbers: n, its half, the half of that, and so on
 abbrev pub halves : ℕ → ℕ → List ℕ

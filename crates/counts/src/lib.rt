@@ -4,20 +4,54 @@
 
 ghost use Rattle.std.specs.Prelude.{◌≡◌, [], ◌∷◌, false, ℕ, ◌+◌, ◌*◌, ◌≤◌, ◌<◌, ◌^◌, replicate, length, drop};
 ghost use Rattle.masks.specs.Bit.{bit};
-ghost use Rattle.counts.specs.Planes.{digit, count_at, holding, halves, Room, Gained, Taken, Added, Tallied, Ties};
+ghost use Rattle.counts.specs.Planes.{digit, count_at, holding, halves, Room, Added, Tallied, Ties};
 
 use term::Term;
 
-// Adds a and b to plane j, a full adder in each place, and says what carries on into the next plane.
-fn add<T: Term>(planes: &mut [u64], j: usize, a: T, b: T) -> T
-    requires { j < length (T.numbers planes.old) }
-    ensures { Gained (T.numbers planes.old) (λ (v : ℕ). 2 ^ j * (digit (T.value a) v + digit (T.value b) v))
-        (λ (v : ℕ). 2 ^ (j + 1) * digit (T.value result) v) (T.numbers planes.new) }
+// In each place, a sum of bits: low, and twice high.
+#[derive(Clone, Copy)]
+pub struct Sum<T> {
+    pub low: T,
+    pub high: T,
+}
+
+// A full adder in each place.
+fn add<T: Term>(a: T, b: T, c: T) -> Sum<T>
+    ensures { (v : ℕ) → digit (T.value a) v + digit (T.value b) v + digit (T.value c) v
+        ≡ digit (T.value result.low) v + 2 * digit (T.value result.high) v }
 {
-    let p = T::at(planes, j);
-    let half = p.xor(a);
-    T::put(planes, j, half.xor(b));
-    p.and(a).or(half.and(b))
+    let half = a.xor(b);
+    Sum {
+        low: half.xor(c),
+        high: a.and(b).or(half.and(c)),
+    }
+}
+
+// The low planes after four terms, and what they carry on.
+#[derive(Clone, Copy)]
+pub struct Fours<T> {
+    pub ones: T,
+    pub twos: T,
+    pub fours: T,
+}
+
+// The low planes after eight terms, and what they carry on.
+#[derive(Clone, Copy)]
+pub struct Eights<T> {
+    pub ones: T,
+    pub twos: T,
+    pub fours: T,
+    pub eights: T,
+}
+
+// The low planes after sixteen terms, and what they carry on.
+#[derive(Clone, Copy)]
+pub struct Sixteens<T> {
+    pub ones: T,
+    pub twos: T,
+    pub fours: T,
+    pub eights: T,
+    pub sixteens: T,
 }
 
 // A list of terms, and the set that a term has to hold to be counted.
@@ -44,44 +78,74 @@ impl<T: Term> Asked<'_, T> {
         }
     }
 
-    // Adds the two terms from i on to the ones, and says what carries on into the twos.
-    fn two(&self, low: &mut [u64], i: usize) -> T
-        requires { (i + 2 ≤ length (T.numbers self.now.f.now)) × (1 ≤ length (T.numbers low.old)) }
-        ensures { Taken (T.numbers low.old) (T.value self.now.x) (T.numbers self.now.f.now) i 2 (T.value result) (T.numbers low.new) }
+    // The two terms from i on, added to the ones.
+    fn two(&self, i: usize, ones: T) -> Sum<T>
+        requires { i + 2 ≤ length (T.numbers self.now.f.now) }
+        ensures { (v : ℕ) → digit (T.value ones) v + holding (T.value self.now.x) (drop i (T.numbers self.now.f.now)) v
+            ≡ digit (T.value result.low) v + 2 * digit (T.value result.high) v
+            + holding (T.value self.now.x) (drop (i + 2) (T.numbers self.now.f.now)) v }
     {
         let s = self.held(i);
         let t = self.held(i + 1);
-        add(low, 0, s, t)
+        add(ones, s, t)
     }
 
-    // Adds the four terms from i on to the ones and twos, and says what carries on into the fours.
-    fn four(&self, low: &mut [u64], i: usize) -> T
-        requires { (i + 4 ≤ length (T.numbers self.now.f.now)) × (2 ≤ length (T.numbers low.old)) }
-        ensures { Taken (T.numbers low.old) (T.value self.now.x) (T.numbers self.now.f.now) i 4 (T.value result) (T.numbers low.new) }
+    // The four terms from i on, added to the ones and twos.
+    fn four(&self, i: usize, ones: T, twos: T) -> Fours<T>
+        requires { i + 4 ≤ length (T.numbers self.now.f.now) }
+        ensures { (v : ℕ) → digit (T.value ones) v + 2 * digit (T.value twos) v
+            + holding (T.value self.now.x) (drop i (T.numbers self.now.f.now)) v
+            ≡ digit (T.value result.ones) v + 2 * digit (T.value result.twos) v + 4 * digit (T.value result.fours) v
+            + holding (T.value self.now.x) (drop (i + 4) (T.numbers self.now.f.now)) v }
     {
-        let s = self.two(low, i);
-        let t = self.two(low, i + 2);
-        add(low, 1, s, t)
+        let a = self.two(i, ones);
+        let b = self.two(i + 2, a.low);
+        let s = add(twos, a.high, b.high);
+        Fours {
+            ones: b.low,
+            twos: s.low,
+            fours: s.high,
+        }
     }
 
-    // Adds the eight terms from i on to the ones, twos and fours, and says what carries on into the eights.
-    fn eight(&self, low: &mut [u64], i: usize) -> T
-        requires { (i + 8 ≤ length (T.numbers self.now.f.now)) × (3 ≤ length (T.numbers low.old)) }
-        ensures { Taken (T.numbers low.old) (T.value self.now.x) (T.numbers self.now.f.now) i 8 (T.value result) (T.numbers low.new) }
+    // The eight terms from i on, added to the ones, twos and fours.
+    fn eight(&self, i: usize, ones: T, twos: T, fours: T) -> Eights<T>
+        requires { i + 8 ≤ length (T.numbers self.now.f.now) }
+        ensures { (v : ℕ) → digit (T.value ones) v + 2 * digit (T.value twos) v + 4 * digit (T.value fours) v
+            + holding (T.value self.now.x) (drop i (T.numbers self.now.f.now)) v
+            ≡ digit (T.value result.ones) v + 2 * digit (T.value result.twos) v + 4 * digit (T.value result.fours) v
+            + 8 * digit (T.value result.eights) v + holding (T.value self.now.x) (drop (i + 8) (T.numbers self.now.f.now)) v }
     {
-        let s = self.four(low, i);
-        let t = self.four(low, i + 4);
-        add(low, 2, s, t)
+        let a = self.four(i, ones, twos);
+        let b = self.four(i + 4, a.ones, a.twos);
+        let s = add(fours, a.fours, b.fours);
+        Eights {
+            ones: b.ones,
+            twos: b.twos,
+            fours: s.low,
+            eights: s.high,
+        }
     }
 
-    // Adds the sixteen terms from i on to the ones, twos, fours and eights, and says what carries on into the sixteens.
-    fn sixteen(&self, low: &mut [u64], i: usize) -> T
-        requires { (i + 16 ≤ length (T.numbers self.now.f.now)) × (4 ≤ length (T.numbers low.old)) }
-        ensures { Taken (T.numbers low.old) (T.value self.now.x) (T.numbers self.now.f.now) i 16 (T.value result) (T.numbers low.new) }
+    // The sixteen terms from i on, added to the ones, twos, fours and eights.
+    fn sixteen(&self, i: usize, ones: T, twos: T, fours: T, eights: T) -> Sixteens<T>
+        requires { i + 16 ≤ length (T.numbers self.now.f.now) }
+        ensures { (v : ℕ) → digit (T.value ones) v + 2 * digit (T.value twos) v + 4 * digit (T.value fours) v + 8 * digit (T.value eights) v
+            + holding (T.value self.now.x) (drop i (T.numbers self.now.f.now)) v
+            ≡ digit (T.value result.ones) v + 2 * digit (T.value result.twos) v + 4 * digit (T.value result.fours) v
+            + 8 * digit (T.value result.eights) v + 16 * digit (T.value result.sixteens) v
+            + holding (T.value self.now.x) (drop (i + 16) (T.numbers self.now.f.now)) v }
     {
-        let s = self.eight(low, i);
-        let t = self.eight(low, i + 8);
-        add(low, 3, s, t)
+        let a = self.eight(i, ones, twos, fours);
+        let b = self.eight(i + 8, a.ones, a.twos, a.fours);
+        let s = add(eights, a.eights, b.eights);
+        Sixteens {
+            ones: b.ones,
+            twos: b.twos,
+            fours: b.fours,
+            eights: s.low,
+            sixteens: s.high,
+        }
     }
 }
 
@@ -111,9 +175,23 @@ fn add_planes<T: Term>(sum: &mut [u64], at: usize, planes: &[u64])
     let n = T::count(planes);
     let mut c: T = T::none();
     for j in 0..n {
-        c = add(sum, at + j, T::at(planes, j), c);
+        let k = at + j;
+        let s = add(T::at(sum, k), T::at(planes, j), c);
+        T::put(sum, k, s.low);
+        c = s.high;
     }
     carry(sum, at + n, c);
+}
+
+// Lays the low planes out, in four that are all 0.
+fn lay_four<T: Term>(low: &mut [u64], ones: T, twos: T, fours: T, eights: T)
+    requires { T.numbers low.old ≡ replicate 4 0 }
+    ensures { T.numbers low.new ≡ T.value ones ∷ T.value twos ∷ T.value fours ∷ T.value eights ∷ [] }
+{
+    T::put(low, 0, ones);
+    T::put(low, 1, twos);
+    T::put(low, 2, fours);
+    T::put(low, 3, eights);
 }
 
 // Adds, to every variable's counter, how many terms of f hold x and that variable; x = 0 counts all terms. Sixteen at a time, with the
@@ -125,16 +203,26 @@ fn count<T: Term>(f: &[u64], x: T, planes: &mut [u64])
     let asked = Asked { f, x };
     let n = T::count(f);
     let blocks = n / 16;
-    let mut low = [0u64; 2 * 4];
-    let low = &mut low[..T::words(4)];
+    let none = T::none();
+    let mut ones = none;
+    let mut twos = none;
+    let mut fours = none;
+    let mut eights = none;
     for b in 0..blocks {
-        let over = asked.sixteen(low, 16 * b);
-        carry(planes, 4, over);
+        let s = asked.sixteen(16 * b, ones, twos, fours, eights);
+        carry(planes, 4, s.sixteens);
+        ones = s.ones;
+        twos = s.twos;
+        fours = s.fours;
+        eights = s.eights;
     }
     for i in 16 * blocks..n {
         let t = asked.held(i);
         carry(planes, 0, t);
     }
+    let mut low = [0u64; 2 * 4];
+    let low = &mut low[..T::words(4)];
+    lay_four(low, ones, twos, fours, eights);
     add_planes::<T>(planes, 0, low);
 }
 

@@ -1,18 +1,17 @@
 -- What *same products* says of the four lists is what together answers of the parts: the lists lie in the room one behind another, they pass
 -- its checks, and by the papers' rule AD = BC exactly if no part holds both variables.
-use Prim.Native.Nat.{ℕ, ◌+◌, ◌*◌, ◌%◌, ◌^◌, ◌≤◌, ◌<◌}
+use Prim.Native.Nat.{ℕ, ◌-◌, ◌*◌, ◌%◌, ◌^◌, ◌≤◌, ◌<◌}
 use mathlib.Core.Path.{◌≡◌, refl, sym, ap, ap₂, ◌∙◌, subst}
 use mathlib.Core.Bool.{Bool, true, false, not, true≢false}
-use mathlib.Core.List.{List, ◌++◌, append_assoc}
+use mathlib.Core.List.{List, ◌++◌}
 use mathlib.Core.Logic.{◌↔◌, inl, inr}
 use native.Mathlib.Nat.{le_trans, lt_of_not-le, one-mul}
 use native.Mathlib.Omega.{arith}
 use borrow.Author.Tests.{eq-eqb, ne_eqb}
 use lib.Bits.{bit_or}
 use lib.Dec.{eqb}
-use lib.ListN.{length, take, drop, length-append}
+use lib.ListN.{length, take, drop}
 use lib.Pow.{shl_exact}
-use lib.Seq.{take_at, drop_at, drop-drop}
 use Rattle.std.specs.Int.{from_bool}
 use Rattle.answer.specs.declared.Answer.{Answer}
 use Rattle.answer.specs.Ends.{over}
@@ -33,31 +32,9 @@ use Rattle.rule.proofs.Rule.{papers_rule}
 use Rattle.same.specs.Same.{same_checks, Judged, SameEnds}
 use Rattle.same.proofs.Passing.{passed_if_ascending}
 use Rattle.papers.specs.Together.{four_lists, Tells}
-use Rattle.papers.specs.Steps.{selected, Askable}
+use Rattle.papers.specs.Steps.{selected, four_selected, Laid, Askable}
 use Rattle.papers.proofs.FourLists.{derivative_selected, at_zero_selected, mixed_selected, other_selected, derivative_shorter, lacking_shorter, four_fit}
-
--- ---- the lists one behind another in the room
-
--- p is taken off the front of the room `old`, as `here`; behind it `rest` is left
-pub record TakenOff (p old here rest : List ℕ) : Type 0 where
-  pub front : here ≡ p
-  pub behind : rest ≡ drop (length p) old
-
--- so it is where p was written at the front, and the room was cut at its end
-pub taken_off : (p old new here rest : List ℕ) (end : ℕ) → (end ≡ length p) × (new ≡ over p old) → here ≡ take end new → rest ≡ drop end new
-    → TakenOff p old here rest
-taken_off p old new here rest end (e, written) front behind = record {
-  front = front ∙ ap (take end) written ∙ take_at p (drop (length p) old) end (sym e);
-  behind = behind ∙ ap (drop end) written ∙ drop_at p (drop (length p) old) end (sym e);
-}
-
--- with q at the front of the rest, p and q stand at the front of the room
-put_back : (q : List ℕ) {p old here rest now : List ℕ} → TakenOff p old here rest → now ≡ over q rest → here ++ now ≡ over (p ++ q) old
-put_back q {p} {old} {here} {rest} {now} off e =
-    ap₂ ◌++◌ off.front (e ∙ ap (over q) off.behind)
-    ∙ ap (λ (l : List ℕ). p ++ (q ++ l)) (drop-drop (length q) (length p) old)
-    ∙ sym (append_assoc p q (drop (length p + length q) old))
-    ∙ ap (λ (n : ℕ). (p ++ q) ++ drop n old) (sym (length-append p q))
+use Rattle.papers.proofs.Laid.{four_length, part_a, part_b, part_c, part_d}
 
 -- ---- lists that pass the checks are judged
 
@@ -117,22 +94,25 @@ module _ (max n : ℕ) {f : List ℕ} {x y room : ℕ} (ask : Askable max n f x 
   is_d : selected (bit_or px py) py f ≡ derivative y (lacking x f)
   is_d = ap₂ (λ p q. selected (bit_or p q) q f) ex ey ∙ other_selected x y ask.other f
 
-  -- and there is room for them
-  pub four_room : length (selected px px f)
-      + (length (selected px 0 f) + (length (selected (bit_or px py) (bit_or px py) f) + length (selected (bit_or px py) py f))) ≤ room
-  four_room = omega (arith, four_fit f x y, ask.fits, ap length is_a, ap length is_b, ap length is_c, ap length is_d)
+  -- laid out they are the papers' four lists one after another,
+  are_four : four_selected px py f ≡ four_lists f x y
+  unfolding four_selected four_lists
+  are_four = ap₂ ◌++◌ is_a (ap₂ ◌++◌ is_b (ap₂ ◌++◌ is_c is_d))
 
-  -- four lists taken off the room one after another, and what was said of them
-  pub told : (said : Answer) {old a b c d r₁ r₂ r₃ r₄ : List ℕ} → TakenOff (selected px px f) old a r₁ → TakenOff (selected px 0 f) r₁ b r₂
-      → TakenOff (selected (bit_or px py) (bit_or px py) f) r₂ c r₃ → TakenOff (selected (bit_or px py) py f) r₃ d r₄
-      → SameEnds max n a d b c said → Tells f x y old (from_bool (not (eqb said.count 1))) (a ++ (b ++ (c ++ (d ++ r₄))))
-  unfolding four_lists
-  told said {old} {a} {b} {c} {d} {r₁} {r₂} {r₃} {r₄} off_a off_b off_c off_d ends = (
+  -- and there is room for them
+  pub four_room : length (four_selected px py f) ≤ room
+  four_room =
+      omega (arith, four_length px py f, four_fit f x y, ask.fits, ap length is_a, ap length is_b, ap length is_c, ap length is_d)
+
+  -- four lists laid out in the room, and what was said of them
+  pub told : (said : Answer) {old new : List ℕ} {a b c d : ℕ} → Laid px py f old new a b c d
+      → SameEnds max n (take a new) (take (d - c) (drop c new)) (take (b - a) (drop a new)) (take (c - b) (drop b new)) said
+      → Tells f x y old (from_bool (not (eqb said.count 1))) new
+  told said {old} {new} {a} {b} {c} {d} laid ends = (
     parts_of f,
     parts_of_list,
     as_number (not (eqb said.count 1)) ∙ ap one_if (answer said.count judged),
-    put_back _ off_a (put_back _ off_b (put_back _ off_c (ap₂ ◌++◌ off_d.front off_d.behind)))
-        ∙ ap (λ l. over l old) (ap₂ ◌++◌ is_a (ap₂ ◌++◌ is_b (ap₂ ◌++◌ is_c is_d))),
+    laid.stands ∙ ap (λ l. over l old) are_four,
   )
     where
       as_number : (t : Bool) → from_bool t ≡ one_if t
@@ -149,7 +129,7 @@ module _ (max n : ℕ) {f : List ℕ} {x y room : ℕ} (ask : Askable max n f x 
           (le_trans (lacking_shorter x f) ask.few)
           (le_trans (derivative_shorter y (derivative x f)) (le_trans (derivative_shorter x f) ask.few))
           a₁ (derivative_asc y (lacking x f) a₀) a₀ (derivative_asc y (derivative x f) a₁)
-          (of_equal_lists max n said a d b c (off_a.front ∙ is_a) (off_d.front ∙ is_d) (off_b.front ∙ is_b) (off_c.front ∙ is_c) ends)
+          (of_equal_lists max n said _ _ _ _ (part_a laid ∙ is_a) (part_d laid ∙ is_d) (part_b laid ∙ is_b) (part_c laid ∙ is_c) ends)
 
       -- no part holds both if the products are the same, and only then
       answer : (k : ℕ) → Judged n (derivative x f) (derivative y (lacking x f)) (lacking x f) (derivative y (derivative x f)) k (tt {0})

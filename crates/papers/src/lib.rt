@@ -10,7 +10,7 @@ ghost use Rattle.answer.specs.Table.{numbers_of, verdict_of};
 ghost use Rattle.answer.specs.Ends.{over};
 ghost use Rattle.answer.specs.Checked.{Checked};
 ghost use Rattle.papers.specs.Together.{together_checks, Tells, TogetherEnds};
-ghost use Rattle.papers.specs.Steps.{selected, Askable};
+ghost use Rattle.papers.specs.Steps.{selected, four_selected, Laid, Askable};
 
 use answer::{Answer, Outcome, Refusal};
 use narrow::Narrow;
@@ -32,24 +32,38 @@ fn select(list: &[u64], fixed: u64, value: u64, room: &mut [u64]) -> usize
     end
 }
 
+// Where the four lists end that lie one after another.
+#[derive(Clone, Copy)]
+pub struct FourEnds {
+    pub a: usize,
+    pub b: usize,
+    pub c: usize,
+    pub d: usize,
+}
+
+// The four lists A, B, C, D of the variables x and y, given as masks, one after another.
+fn lay_out(list: &[u64], x: u64, y: u64, room: &mut [u64]) -> FourEnds
+    requires { length (four_selected x y list.now) ≤ length room.old }
+    ensures { Laid x y list.now room.old room.new result.a result.b result.c result.d }
+{
+    let both = x | y;
+    let a = select(list, x, x, room);
+    let b = a + select(list, x, 0, &mut room[a..]);
+    let c = b + select(list, both, both, &mut room[b..]);
+    let d = c + select(list, both, y, &mut room[c..]);
+    FourEnds { a, b, c, d }
+}
+
 // The question itself, whether some part holds both variables: AD = BC exactly if none does. The four lists A, B, C, D of the variables lie
 // one after another in the room.
 fn ask(list: &[u64], x: u64, y: u64, room: &mut [u64]) -> bool
     requires { Askable TermList.MAX_TERMS TermList.MAX_VARS list.now x y (length room.old) }
     ensures { Tells list.now x y room.old (from_bool result) room.new }
 {
-    let x = 1 << x;
-    let y = 1 << y;
-    let end = select(list, x, x, room);
-    let (a, rest) = room.split_at_mut(end);
-    let end = select(list, x, 0, rest);
-    let (b, rest) = rest.split_at_mut(end);
-    let end = select(list, x | y, x | y, rest);
-    let (c, rest) = rest.split_at_mut(end);
-    let end = select(list, x | y, y, rest);
-    let (d, _) = rest.split_at_mut(end);
-    let said = Answer::from(same::same_products::<Narrow>(a, d, b, c));
-    said.count != 1
+    let FourEnds { a, b, c, d } = lay_out(list, 1 << x, 1 << y, room);
+    let room = &*room;
+    let said = same::same_products::<Narrow>(&room[..a], &room[c..d], &room[a..b], &room[b..c]);
+    Answer::from(said).count != 1
 }
 
 // Whether a variable stands in a set.

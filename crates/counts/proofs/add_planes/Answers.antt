@@ -3,6 +3,7 @@ use native.Mathlib.Omega.{arith}
 use borrow.Author.Rules.{rules}
 use Prim.Native.Nat.{◌+◌, ◌*◌, ◌^◌}
 use mathlib.Core.Path.{refl, ◌∙◌}
+use lib.ListN.{length-set}
 use Rattle.counts.specs.Planes.{count_at}
 use Rattle.counts.proofs.Products.{plane_added, planes_start, carry_left}
 use Rattle.counts.proofs.Words.{no_more_than_words}
@@ -22,16 +23,18 @@ loop-j-preserved g c =
     let here = c.loop-j in
     let value = g.T.Term.value in
     let numbers = g.T.Term.numbers in
+    let s = c.add-s.result in
     record {
-      size = c.add-c.ensures.size ∙ here.invariant.size;
+      size = rw (c.put.ensures, length-set) here.invariant.size;
       counts = λ v.
-          plane_added (numbers here.sum) (numbers a.planes.now) (numbers c.add-c.new.planes) a.at here.j (value c.at.result) (value here.c)
-          (value c.add-c.result)
-          (count_at (numbers a.sum.now) v + 2 ^ a.at * count_at (numbers a.planes.now) v) v c.at.ensures (omega (arith, c.count-n.ensures)) (c.add-c.ensures.counts v) (here.invariant.counts v);
+          plane_added (numbers here.sum) (numbers a.planes.now) (numbers c.put.new.words) a.at here.j (value c.at.result)
+          (value c.at-in-loop-j.result) (value here.c) (value s.low) (value s.high)
+          (count_at (numbers a.sum.now) v + 2 ^ a.at * count_at (numbers a.planes.now) v) v c.at.ensures c.at-in-loop-j.ensures c.put.ensures
+          (omega (arith, c.count-n.ensures)) (omega (arith, c.count-n.ensures)) (c.add-s.ensures v) (here.invariant.counts v);
     }
 
-pub overflow_add-at-2 : goal.overflow_add-at-2
-overflow_add-at-2 g c = search (rules, no_more_than_words g.T.Term.laws c.args.sum.now)
+pub overflow_add-at : goal.overflow_add-at
+overflow_add-at g c = search (rules, no_more_than_words g.T.Term.laws c.args.sum.now)
 
 pub returns : goal.returns
 returns g c =
