@@ -85,24 +85,23 @@ module _ (f words ls : List ℕ) where
     there = cut_next ls rest i here ∙ ap₂ (λ (p r : List ℕ). p ∷ cut (drop (i + 1) ls) r) (sym front) (sym back)
 
     -- is out of order,
-    pub given_out : (refusal : Refusal) → Checked (check (ltb (unordered part) (length part)) 3 (i + 2) (unordered part) ∷ []) (refusal_of refusal)
-        → OrderFrom f words ls i rest → Checked (order_checks 1 (f ∷ cut ls words)) (refusal_of refusal)
+    pub given_out : (found : ℕ) → found ≡ unordered part → found < length part → OrderFrom f words ls i rest
+        → Checked (order_checks 1 (f ∷ cut ls words)) (refused 3 (i + 2) found)
     unfolding order_checks
-    given_out refusal checked from =
-        from (refusal_of refusal)
-        (subst (λ (ps : List (List ℕ)). Checked (order_checks (i + 2) ps) (refusal_of refusal)) (sym there)
-        (refused_first (check (ltb (unordered part) (length part)) 3 (i + 2) (unordered part))
-        (order_checks (suc (i + 2)) (cut (drop (i + 1) ls) behind)) refusal checked))
+    given_out found e h from =
+        from (refused 3 (i + 2) found)
+        (subst (λ (ps : List (List ℕ)). Checked (order_checks (i + 2) ps) (refused 3 (i + 2) found)) (sym there)
+        (fails_here (ltb (unordered part) (length part)) 3 (i + 2) (unordered part) found (order_checks (suc (i + 2)) (cut (drop (i + 1) ls) behind))
+        (lt-ltb (unordered part) (length part) (subst (λ (n : ℕ). n < length part) e h)) (omega arith) e))
 
     -- or it is not
-    pub order_goes_on : Checked (check (ltb (unordered part) (length part)) 3 (i + 2) (unordered part) ∷ []) (accepted 0)
-        → OrderFrom f words ls i rest → OrderFrom f words ls (i + 1) behind
+    pub order_goes_on : (found : ℕ) → found ≡ unordered part → length part ≤ found → OrderFrom f words ls i rest → OrderFrom f words ls (i + 1) behind
     unfolding order_checks
-    order_goes_on passed from answer c =
+    order_goes_on found e h from answer c =
         from answer
         (subst (λ (ps : List (List ℕ)). Checked (order_checks (i + 2) ps) answer) (sym there)
-        (passed_next (check (ltb (unordered part) (length part)) 3 (i + 2) (unordered part))
-        (order_checks (suc (i + 2)) (cut (drop (i + 1) ls) behind)) answer passed
+        (passes_here (ltb (unordered part) (length part)) 3 (i + 2) (unordered part) (order_checks (suc (i + 2)) (cut (drop (i + 1) ls) behind)) answer
+        (le-ltb (unordered part) (length part) (subst (λ (n : ℕ). length part ≤ n) e h))
         (subst (λ (k : ℕ). Checked (order_checks k (cut (drop (i + 1) ls) behind)) answer) (omega arith) c)))
 
   -- none is

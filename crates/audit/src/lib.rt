@@ -91,7 +91,14 @@ fn check_order(list: &[u64], given: Lists<'_>) -> Result<(), Refusal>
     let mut rest = given.words;
     for (i, &length) in given.lengths.iter().enumerate() {
         let (part, behind) = rest.split_at(length as usize);
-        operands::check_order::<Narrow>(part, i as u64 + 2)?;
+        // not by `operands::check_order`, so that it stands here, for a wrong program to turn, which list the place counts in
+        let place = terms::first_unordered::<Narrow>(part);
+        if place < part.len() {
+            return Err(Refusal::Order {
+                operand: i as u64 + 2,
+                place: place as u64,
+            });
+        }
         rest = behind;
     }
     Ok(())

@@ -19,19 +19,18 @@ loop-i-init c =
       from = order_from_first a.list.now a.given.words.now a.given.lengths.now c.in_ok-check_order.ensures;
     }
 
-pub returns-in_err-check_order-2 : goal.returns-in_err-check_order-2
-returns-in_err-check_order-2 c =
+pub returns-then-place-part : goal.returns-then-place-part
+returns-then-place-part c =
     let a = c.args in
-    rw (came c.from_residual-in_err-check_order-2.result c.in_err-check_order-2.field-0.0 c.from_residual-in_err-check_order-2.ensures.1)
-    (given_out a.list.now a.given.words.now a.given.lengths.now c.loop-i.i c.loop-i.rest.now _ _ (omega arith) c.split_at.ensures.front c.split_at.ensures.back
-    _ c.in_err-check_order-2.ensures c.loop-i.invariant.from)
+    given_out a.list.now a.given.words.now a.given.lengths.now c.loop-i.i c.loop-i.rest.now _ _ (omega arith) c.split_at.ensures.front c.split_at.ensures.back
+    c.first_unordered-place.result c.first_unordered-place.ensures c.if-place-part.true c.loop-i.invariant.from
 
 pub loop-i-preserved : goal.loop-i-preserved
 loop-i-preserved c =
     let a = c.args in record {
       left = omega (arith, c.loop-i.invariant.left, added_from a.given.lengths.now c.loop-i.i (omega arith), c.split_at.ensures.back_len);
       from = order_goes_on a.list.now a.given.words.now a.given.lengths.now c.loop-i.i c.loop-i.rest.now _ _ (omega arith) c.split_at.ensures.front c.split_at.ensures.back
-          c.in_ok-check_order-2.ensures c.loop-i.invariant.from;
+          c.first_unordered-place.result c.first_unordered-place.ensures (omega arith) c.loop-i.invariant.from;
     }
 
 pub returns : goal.returns
