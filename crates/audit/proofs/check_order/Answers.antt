@@ -23,7 +23,7 @@ pub returns-then-place-part : goal.returns-then-place-part
 returns-then-place-part c =
     let a = c.args in
     given_out a.list.now a.given.words.now a.given.lengths.now c.loop-i.i c.loop-i.rest.now _ _ (omega arith) c.split_at.ensures.front c.split_at.ensures.back
-    c.first_unordered-place.result c.first_unordered-place.ensures c.if-place-part.true c.loop-i.invariant.from
+    _ (omega (arith, c.first_unordered-place.ensures)) (omega (arith, c.if-place-part.true)) c.loop-i.invariant.from
 
 pub loop-i-preserved : goal.loop-i-preserved
 loop-i-preserved c =
