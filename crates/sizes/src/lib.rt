@@ -3,17 +3,23 @@
 #![tactic(auto)]
 
 ghost use Rattle.std.specs.Prelude.{◌≡◌, length};
+ghost use Rattle.answer.specs.Table.{numbers_of};
+ghost use Rattle.parts.specs.Split.{SplitEnds};
+ghost use Rattle.parts.specs.Lent.{lent};
+ghost use Rattle.wide.specs.Numbers.{numbers, lines};
 
 use answer::Outcome;
 use parts::Outputs;
+use terms::TermList;
 use wide::Wide;
 
-// A caller that goes on with the buffers that it lent to split: they are as long as they were, refused or not. The terms in them do not tell
-// this of an odd last word, which is no term.
+// A caller that goes on with the buffers that it lent to split: it ends as split does, and they are as long as they were, refused or not. The
+// terms in them do not tell this of an odd last word, which is no term.
 pub fn split_and_go_on(list: &[u64], outputs: &mut Outputs<'_>) -> Outcome
     ensures terms { length outputs.new.terms.now ≡ length outputs.old.terms.now }
     ensures lengths { length outputs.new.lengths.now ≡ length outputs.old.lengths.now }
     ensures work { length outputs.new.work.now ≡ length outputs.old.work.now }
+    ensures ends { SplitEnds TermList.MAX_TERMS lines (numbers list.now) (lent numbers outputs.old) (numbers_of result) (lent numbers outputs.new) }
 {
     parts::split::<Wide>(list, outputs)
 }
